@@ -1,10 +1,10 @@
-"""Writes the tables of the crate geos_topics, which `geos help TOPIC` prints, from the tables of the documents.
+"""Writes the tables of the crate geos_topics, which `geos help TOPIC` prints, from the documents.
 
     python3 tools/topics.py [FILE]
 
 FILE is crates/geos_topics/src/tables.rt if it is not given. Instructions and refusals are those of docs/INSTRUCTIONS.md, rules those of
-docs/VERIFIER.md with the cures of docs/ERRORS.md, and the faults of a text those of docs/ERRORS.md. The example of an instruction is its first
-use in the texts of examples/.
+docs/VERIFIER.md with the sentences and cures of docs/ERRORS.md, and the faults of a text those of docs/ERRORS.md. The example of an
+instruction is its first use in the texts of examples/.
 """
 
 import re
@@ -36,11 +36,22 @@ def table(page: str, head: str) -> list[list[str]]:
     return rows
 
 
-def rules() -> dict[str, tuple[str, str]]:
-    """Of each rule its name and what breaks it, from the list in docs/VERIFIER.md."""
-    text = (TOP / "docs" / "VERIFIER.md").read_text()
-    found = re.findall(r"^- (V\d+) `(\w+)`: (.*?)(?=^- V|\n\n)", text, re.M | re.S)
-    return {rule: (name, plain(words).replace(" (below)", "").replace(" below", "")) for rule, name, words in found}
+def listed(page: str, before: str) -> dict[str, tuple[str, str]]:
+    """The list of a page after some words: its items `- KEY `NAME`: WORDS` or `- KEY: WORDS`, by key. A name may be empty."""
+    text = (TOP / "docs" / page).read_text().split(before, 1)[1].split("\n- ", 1)[1].split("\n\n", 1)[0]
+    found = {}
+    for item in text.split("\n- "):
+        head, _, words = item.partition(": ")
+        keys, _, name = head.partition(" `")
+        for key in keys.split(", "):
+            found[key] = (name.strip("`"), plain(words).removesuffix(" (below)").removesuffix(" below"))
+    return found
+
+
+def sentences() -> dict[str, str]:
+    """What `geos explain` says of a refusal by each rule, from the example in docs/ERRORS.md."""
+    text = (TOP / "docs" / "ERRORS.md").read_text()
+    return dict(re.findall(r"^; refused by (V\d+): (.*)$", text, re.M))
 
 
 def uses() -> dict[str, str]:
@@ -73,30 +84,34 @@ def constant(name: str, about: str, entries: list[str]) -> str:
 def main() -> None:
     """Writes the file."""
     file = Path(sys.argv[1]) if len(sys.argv) > 1 else TOP / "crates" / "geos_topics" / "src" / "tables.rt"
-    refusals = {number: meaning for number, _, meaning in table("INSTRUCTIONS.md", "| Number |")}
+    refusals = listed("INSTRUCTIONS.md", "The numbers, with their names")
     examples = uses()
     instructions = {}
     for _, text, effect, numbers in table("INSTRUCTIONS.md", "| Code |"):
-        refused = [f"{n} ({refusals[n]})" for n in dict.fromkeys(numbers.split(", ")) if n]
+        refused = [f"{n} ({refusals[n][1]})" for n in dict.fromkeys(numbers.split(", ")) if n]
         words = f"{text}\n" + folded(f"{effect}.")
         if refused:
             words += folded(f"It is refused, with the number in w7, and control goes to L: {'; '.join(refused)}.")
         if text.split()[0] in examples:
             words += f"Example: {examples[text.split()[0]]}\n"
         instructions[text.split()[0]] = words
-    cures = dict(table("ERRORS.md", "| Rule | Cure |"))
-    told = {
-        rule: f"{rule} {name}\n" + folded(f"Refused: {words}.") + folded(f"Cure: {cures[rule]}.") + f"docs/VERIFIER.md has the rule, docs/ERRORS.md an example.\n"
-        for rule, (name, words) in rules().items()
-    }
-    faults = {number: f"why {number} {name.strip('`')}\n" + folded(f"{fault[0].upper()}{fault[1:]}.") for number, name, fault in table("ERRORS.md", "| K |")}
-    refused = {number: f"refused {number} {name.strip('`')}\n" + folded(f"{meaning[0].upper()}{meaning[1:]}.") for number, name, meaning in table("INSTRUCTIONS.md", "| Number |")}
+    cures = listed("ERRORS.md", "What the sentences do not say")
+    said = sentences()
+    told = [
+        f"{rule} {name}\n"
+        + folded(f"It refuses: {words}.")
+        + folded(f"Example: {said[rule]}")
+        + (folded(f"Cure: {cures[rule][1]}.") if rule in cures else "")
+        for rule, (name, words) in listed("VERIFIER.md", "`geos_verify::Rule`").items()
+    ]
+    faults = [f"why {n} {name}\n" + folded(f"{words}.") for n, (name, words) in listed("ERRORS.md", "named as in").items()]
+    refused = [f"refused {n} {name}\n" + folded(f"{words}.") for n, (name, words) in refusals.items()]
     parts = [
         "//! What is said of instructions, rules, refusals and faults. Made by tools/topics.py from the documents.\n",
         constant("INSTRUCTIONS", "What is said of each instruction. An entry begins with the instruction's name; an empty line is between two.",
                  list(instructions.values())),
         constant("OTHERS", "What is said of each rule of the verifier, each refusal, and each fault of a text.",
-                 [*told.values(), *refused.values(), *faults.values()]),
+                 [*told, *refused, *faults]),
     ]
     file.write_text("\n".join(parts))
 

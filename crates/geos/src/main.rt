@@ -8,6 +8,7 @@ mod requests;
 
 use fault::RequestFault;
 use geos_shell::{Answer, Asked, keep_stream_numbers, requested, words};
+use geos_topics::topic_of;
 use requests::carry_out;
 use std::fmt::Display;
 use std::process::ExitCode;
@@ -51,11 +52,20 @@ fn run_request(rt: &HostRuntime, asked: Asked) -> ExitCode
     }
 }
 
-/// Does what the words ask for, and gives the program's status.
-fn run(rt: &HostRuntime, words: &[String]) -> ExitCode {
+/// Answers words that ask for no topic of the help.
+fn run_words(rt: &HostRuntime, words: &[String]) -> ExitCode {
     match requested(rt.alloc(), words) {
         Ok(asked) => run_request(rt, asked),
         Err(answer) => answered(rt, words, &answer),
+    }
+}
+
+/// Does what the words ask for, and returns the program's status.
+fn run(rt: &HostRuntime, words: &[String]) -> ExitCode {
+    match topic_of(rt.alloc(), words) {
+        Ok(Some(text)) => answered(rt, words, &Answer::Text(text)),
+        Ok(None) => run_words(rt, words),
+        Err(_) => answered(rt, words, &Answer::Memory),
     }
 }
 

@@ -25,7 +25,6 @@ mod reason;
 mod replace;
 mod request;
 mod streams;
-mod topics;
 
 pub use answer::Answer;
 pub use command_line::words;

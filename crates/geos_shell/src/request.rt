@@ -14,7 +14,6 @@ use crate::numbers::{
 };
 use crate::printable::{Printable, has_control};
 use crate::streams::{STANDARD, is_stream};
-use crate::topics::topic_of;
 use clap::{ArgMatches, Error};
 use std::alloc::{AllocError, Global};
 use std::io::IsTerminal;
@@ -445,11 +444,6 @@ fn asked_of<'a>(alloc: Global, matches: &ArgMatches<'a>) -> Result<Asked<'a>, Mi
 pub fn requested<'a>(alloc: Global, words: &'a [String]) -> Result<Asked<'a>, Answer>
     ensures { IfOk result (λ asked. KeepsLimits asked.request) }
 {
-    match topic_of(alloc, words) {
-        Ok(Some(text)) => return Err(Answer::Text(text)),
-        Ok(None) => {}
-        Err(_) => return Err(Answer::Memory),
-    }
     match matches_of(alloc, words) {
         Ok(matches) => asked_of(alloc, &matches).map_err(|misuse| misuse.answer(alloc)),
         Err(error) => Err(answer_to(alloc, words, &error)),

@@ -440,153 +440,155 @@ Example: ISETMAP w0 w1 undo_open    (in examples/notes.asm)";
 /// What is said of each rule of the verifier, each refusal, and each fault of a text.
 pub(crate) const OTHERS: &str = "\
 V1 LeavesRoutine
-Refused: a branch or the fall-through leaves the routine.
+It refuses: a branch or the fall-through leaves the routine.
+Example: line 11 stands outside of the routine
 Cure: end with RET or JMP; name only labels of the same routine.
-docs/VERIFIER.md has the rule, docs/ERRORS.md an example.
 
 V2 NamesEmptySlot
-Refused: a pointer of the row leads into an empty slot.
+It refuses: a pointer of the row leads into an empty slot.
+Example: p0=s0:4 leads into an empty slot
 Cure: lock a block into the slot first; name the slot of each pointer in `in` and `out`.
-docs/VERIFIER.md has the rule, docs/ERRORS.md an example.
 
 V3 EntryMisfit
-Refused: first pc: the entry row does not imply the row here; or the routine is public and
-its entry or exit row breaks the rules.
-Cure: in `in` and `out` of a public routine have no pointers, and only borrowed slots: `vm@`
-in `in` without `#`, and the same slots, marked or not, in `out`.
-docs/VERIFIER.md has the rule, docs/ERRORS.md an example.
+It refuses: first pc: the entry row does not imply the row here; or the routine is public
+and its entry or exit row breaks the rules.
+Example: a public routine begins and ends with empty or borrowed slots and stale pointers;
+s0=mem is held in the in line, and not borrowed
+Cure: in a public routine `in` and `out` have no pointers, and only borrowed slots: `vm@` in
+`in` without `#`, and the same slots, marked or not, in `out`.
 
 V4 StalePointer
-Refused: a pointer that is read, written, copied (by MOVP too) or measured is stale.
-Cure: fetch the pointer again, by DEREF or CAELT, after what may have moved it (an item
-call: in every group), and where paths meet. Tell slots apart by SNE. Add the pointer to the
-callee's `out`.
-docs/VERIFIER.md has the rule, docs/ERRORS.md an example.
+It refuses: a pointer that is read, written, copied (by MOVP too) or measured is stale.
+Example: p0 may be stale here; LFREE at line 14 may have moved what is behind p0: fetch it
+again
+Cure: after an item call fetch pointers into every group again; fetch where paths meet. Tell
+slots apart by SNE. Add the pointer to the callee's `out`.
 
 V5 PassesEnd
-Refused: a read or a write may pass the least length of its pointer.
-Cure: require more bytes in DEREF or CAELT; bound the index by CHK or AND; or use the tested
-form.
-docs/VERIFIER.md has the rule, docs/ERRORS.md an example.
+It refuses: a read or a write may pass the least length of its pointer.
+Example: nothing is known of w0, the index, and w0<=7 is wanted: p0 is known to have 8
+bytes; CHK w0 7 L in front of this bounds it, LDCB tests it
+Cure: require more bytes in DEREF or CAELT; or bound the index by AND.
 
 V6 ChangesUnmarked
-Refused: a slot with a VM block or DB group not known to be marked is written through a
+It refuses: a slot with a VM block or DB group not known to be marked is written through a
 pointer, or its chunks are changed by an instruction that moves the chunks of the block.
-Cure: mark the block before the change, by VDIRTY, or a group by IDIRTY.
-docs/VERIFIER.md has the rule, docs/ERRORS.md an example.
+Example: s0=vm is changed here, and may not be marked yet: VDIRTY s0 marks it
 
 V7 LocksIntoHeld
-Refused: a block is locked into a slot that is not empty.
-Cure: unlock the slot first, or use another one.
-docs/VERIFIER.md has the rule, docs/ERRORS.md an example.
+It refuses: a block is locked into a slot that is not empty.
+Example: s0=mem is held here, and an empty slot is wanted
+Cure: unlock the slot first, or use another one; lock a block into it on each path; leave
+borrowed blocks to the caller.
 
 V8 WrongSlot
-Refused: a slot is used, other than to lock into it, that is empty or has a block of the
+It refuses: a slot is used, other than to lock into it, that is empty or has a block of the
 wrong kind; or a borrowed slot is unlocked. SNE requires two blocks of one kind.
-Cure: lock a block into the slot on each path; leave borrowed blocks to the caller.
-docs/VERIFIER.md has the rule, docs/ERRORS.md an example.
+Example: s0=empty is known here, and mem is wanted
+Cure: unlock the slot first, or use another one; lock a block into it on each path; leave
+borrowed blocks to the caller.
 
 V9 CommitsHeld
-Refused: VUPDATE, VSAVE or VREVERT while a slot has a VM block or a DB group.
-Cure: unlock all blocks of the VM file before it is written, by VUNLOCK and IUNLOCK.
-docs/VERIFIER.md has the rule, docs/ERRORS.md an example.
+It refuses: VUPDATE, VSAVE or VREVERT while a slot has a VM block or a DB group.
+Example: s0=vm is held where the file is written: unlock it before; s0 is held since the in
+line
 
 V10 CallMisfit
-Refused: CALL of a routine that does not come before its own, or whose entry row the row
+It refuses: CALL of a routine that does not come before its own, or whose entry row the row
 does not imply.
+Example: s0=vm is wanted by v9, and not known here
 Cure: put the callee before the caller; lock, fetch, bound and tell apart what its `in`
 says; empty the slots that it locks itself.
-docs/VERIFIER.md has the rule, docs/ERRORS.md an example.
 
 V11 ExitMisfit
-Refused: RET if the row does not imply the exit row.
-Cure: on each path to RET unlock what `out` does not name, by the cleanup chain.
-docs/VERIFIER.md has the rule, docs/ERRORS.md an example.
+It refuses: RET if the row does not imply the exit row.
+Example: s0=mem is still held at the return; s0 is held since line 45
+Cure: on each path to RET unlock what `out` does not name.
 
 V12 EdgeMisfit
-Refused: the row after an instruction does not imply the row where the edge leads.
-Cure: remove the unreachable instruction.
-docs/VERIFIER.md has the rule, docs/ERRORS.md an example.
+It refuses: the row after an instruction does not imply the row where the edge leads.
+Example: s0=mem is wanted at line 52, and not known here; nothing leads here: take it out
 
 V13 EdgeUnpaid
-Refused: an edge is not paid for.
-Cure: have a LOOP on each cycle; bound the word of SETKW; use another counter if a CALL
-touches it.
-docs/VERIFIER.md has the rule, docs/ERRORS.md an example.
+It refuses: an edge is not paid for.
+Example: 4 steps are owed from here, 2 are left
+Cure: have a LOOP on each cycle. Its counter is set on each path to the loop, and touched by
+no CALL. Bound the word of SETKW.
 
 V14 OverBudget
-Refused: first pc: the potential's constant is above the budget, or a coefficient is above
-0.
-Cure: increase the budget; bound the word of SETKW; set the counter on each path to its
-loop.
-docs/VERIFIER.md has the rule, docs/ERRORS.md an example.
+It refuses: first pc: the potential's constant is above the budget, or a coefficient is
+above 0.
+Example: 2 steps are owed at the start of v14, the budget is 1: budget 2 is the least that
+serves
+Cure: have a LOOP on each cycle. Its counter is set on each path to the loop, and touched by
+no CALL. Bound the word of SETKW.
 
 refused 1 BadHandle
-No block has this handle, or the block is no group and a group is required.
+no block has this handle, or the block is no group and a group is required.
 
 refused 2 BadChunk
-No chunk has this handle.
+no chunk has this handle.
 
 refused 3 Short
-The chunk or element is shorter than requested.
+the chunk or element is shorter than requested.
 
 refused 4 NoRoom
-No room in the region.
+no room in the region.
 
 refused 5 NoHandle
-No handle is free.
+no handle is free.
 
 refused 6 TooBig
-The block would need more than 65,520 bytes, or the commit more than an area of the file.
+the block would need more than 65,520 bytes, or the commit more than an area of the file.
 
 refused 7 Locked
-The block is locked, or has 65,535 locks.
+the block is locked, or has 65,535 locks.
 
 refused 8 BadArray
-The chunk's bytes are no array, or one whose elements can't be resized.
+the chunk's bytes are no array, or one whose elements can't be resized.
 
 refused 9 BadElement
-The array has no such element, or no such place for one.
+the array has no such element, or no such place for one.
 
 refused 10 Full
-The output is full.
+the output is full.
 
 refused 11 Disk
-The device failed.
+the device failed.
 
 refused 12 Unsure
-A commit failed late, so it is unknown what the device has; nothing more is written to it.
+a commit failed late, so it is unknown what the device has; nothing more is written to it.
 
 refused 13 Memory
-Memory for writing the file was refused.
+memory for writing the file was refused.
 
 refused 14 Range
-The offset or bytes lie past the end of the chunk, or of the pointer's bytes; or a map item
+the offset or bytes lie past the end of the chunk, or of the pointer's bytes; or a map item
 other than 0 has no group.
 
 refused 15 Reserved
-The user ID of groups, 65,280, is given, or a group is given instead of a block.
+the user ID of groups, 65,280, is given, or a group is given instead of a block.
 
 why 1 UnknownWord
-The first word after the labels is no instruction, and none of `routine`, `in`, `out`.
+the first word after the labels is no instruction, and none of `routine`, `in`, `out`.
 
 why 2 WrongOperands
-Operands are too few or too many (then none is read), or one has another form, as `9x`,
+operands are too few or too many (then none is read), or one has another form, as `9x`,
 `-1`, `0x1`, `w8`, `w01` or `s1#s1`.
 
 why 3 OutOfRange
-A number exceeds its range: 15 for SHR, 4,294,967,295 for a budget, 65,535 for others.
+a number exceeds its range: 15 for SHR, 4,294,967,295 for a budget, 65,535 for others.
 
 why 4 Undefined
-No label, or no routine, has the name.
+no label, or no routine, has the name.
 
 why 5 UsedTwice
-An earlier label, or routine, has the name.
+an earlier label, or routine, has the name.
 
 why 6 TooMany
-The 33rd routine, the 4,097th instruction; at line 1, a text that is too long.
+the 33rd routine, the 4,097th instruction; at line 1, a text that is too long.
 
 why 7 OutOfPlace
-`in` or `out` twice or elsewhere; an instruction before any routine; a routine without
-instruction, at its first line; a label before `routine`, `in`, `out` or the end of the
-text, at its line; a text without routine, at line 1.";
+`in` or `out` twice or elsewhere. An instruction before any routine. A routine without
+instruction, at its first line. A label before `routine`, `in`, `out` or the end of the
+text, at its line. A text without routine, at line 1.";

@@ -1,6 +1,6 @@
-//! `geos help TOPIC`, of an instruction, a rule, a refusal or a fault of a text.
+//! The topic that words on the command line ask for.
 
-use geos_topics::topic;
+use crate::topic;
 use std::alloc::{AllocError, Global};
 
 /// The words after `help`, each after a space but the first.
@@ -15,8 +15,9 @@ fn joined(alloc: Global, words: &[String]) -> Result<String, AllocError> {
     Ok(all)
 }
 
-/// The text on the topic that words ask for: those after `help`, also in small letters. `None` if they ask for none.
-pub(crate) fn topic_of(alloc: Global, words: &[String]) -> Result<Option<String>, AllocError> {
+/// The text on the topic that the words on a command line ask for: those after `help`, also in small letters. `None` if they ask for no topic.
+/// `AllocError` if the allocator refuses memory.
+pub fn topic_of(alloc: Global, words: &[String]) -> Result<Option<String>, AllocError> {
     let Some((help, rest)) = words.split_first() else {
         return Ok(None);
     };
