@@ -14,7 +14,7 @@ use crate::place::Place;
 use crate::refusals::{put_over_budget, put_refusal};
 use crate::repeated::told_once;
 use crate::routines::{ExplainedRoutine, place_at};
-use geos_image::{Image, Routine};
+use geos_image::Image;
 use geos_listing::{Targets, put_code, put_label_line, put_routine_line, put_row, targets_of};
 use geos_text::first_line;
 use geos_verify::Rule;
