@@ -1,6 +1,8 @@
 pub mod Calling
+pub mod Named
 pub mod Notes
 pub mod Numbers
+pub mod Refusing
 pub mod Shapes
 pub mod Starting
 pub mod Steps

@@ -1,5 +1,6 @@
 -- What calls note for a host, and what the host is left with if it is stopped.
-use Rattle.std.proofs.Common.{◌≡◌, ◌⊎◌, ◌<◌, ◌-◌, ℕ, List, [], ◌∷◌, length, reverse, Result, Ok, Err, refl, ap, sym, subst, inl, inr, ⊎_elim, arith}
+use Rattle.std.proofs.Common.{◌≡◌, ◌⊎◌, ◌<◌, ◌-◌, ℕ, List, [], ◌∷◌, length, reverse, Result, Ok, Err}
+use Rattle.std.proofs.Common.{refl, ap, sym, subst, inl, inr, ⊎_elim, arith}
 use Rattle.geos_calls.specs.VmFile.{Kept, Sure, Unsure, VmFile}
 use Rattle.geos_calls.specs.VmFile as model_file
 use Rattle.vm_file.specs.Contents.{Pair}
@@ -37,7 +38,11 @@ some-long (kept ∷ keeps) c opens = ⊎_elim (kept-long kept c) (some-long keep
 
 -- a device that was read at most
 pub reads-device : (old new : System) → ReadsOnly medium old.kernel.device new.kernel.device → ReadsDevice old new
-reads-device old new reads = record { bytes = reads.same; goes_on = goes-reading old.kernel.device new.kernel.device reads }
+reads-device old new reads = record {
+  bytes = reads.same;
+  goes_on = goes-reading old.kernel.device new.kernel.device reads;
+  stops = λ c left. ⊎_elim (at_once old.kernel.device c) (λ now. now) (reads.time tt old.kernel.device c left);
+}
 
 -- nothing was noted before
 module _ (old new : HostDevice) (begins : journal_of old ≡ []) where

@@ -1,10 +1,10 @@
 -- What calls answer to C.
-use Rattle.std.specs.Prelude.{◌≡◌, ◌<◌, ◌≤◌, ℕ, Bool, if◌then◌else◌, Result, Ok, Err, IfOk}
+use Rattle.std.specs.Prelude.{◌≡◌, ◌<◌, ◌≤◌, ℕ, Bool, if◌then◌else◌, List, Result, Ok, Err, IfOk}
 use Rattle.geos_terms.specs.declared.refusal.Refusal.{Refusal}
 use Rattle.geos_terms.specs.Refusals.{refusal_number}
 use Rattle.geos_calls.specs.Effects.{Call}
 use Rattle.geos_kernel.specs.Kernel.{Calls}
-use Rattle.host_device.specs.Journal.{GoesOn, bytes_of}
+use Rattle.host_device.specs.Journal.{GoesOn, MayHaveLeft, MayLeave, bytes_of}
 use Rattle.takhvoi.specs.declared.system.System.{System}
 use Rattle.takhvoi.specs.declared.handle.Handle.{Handle}
 
@@ -13,10 +13,12 @@ abbrev pub IsStatus : {A : Type 0} → Result A Refusal → ℕ → Type 0
 IsStatus (Ok a) status = status ≡ 0
 IsStatus (Err refusal) status = status ≡ refusal_number refusal
 
--- the device was read at most: it gives the same bytes, each step that was noted is still noted, and performing them leads a host as before
+-- the device was read at most: it gives the same bytes, each step that was noted is still noted, and performing them leads a host as before.
+-- A host that is stopped meanwhile is left with nothing that it might not have been left with before, so no more than a sync is noted
 pub record ReadsDevice (old new : System) : Type 0 where
   pub bytes : bytes_of new.kernel.device ≡ bytes_of old.kernel.device
   pub goes_on : GoesOn old.kernel.device new.kernel.device
+  pub stops : (c : List ℕ) → MayHaveLeft old.kernel.device new.kernel.device c → MayLeave old.kernel.device c
 
 -- the kernel answered as the call's row says, and the number is that of its reply
 abbrev pub IsReply : Call (Unit {0}) → ℕ → System → System → Type 0
@@ -65,7 +67,8 @@ Done own came status old new = (new.images.items ≡ old.images.items) × (new.h
 
 -- a call on a handle: where that holds nothing, the answer is 100, and it holds nothing then; else it holds what this leads to
 abbrev pub On : (System → System → Type 0) → ℕ → Handle → Handle → Type 0
-On does status old new = (old.live ≡ 0 → (status ≡ 100) × (new.live ≡ 0)) × ((old.live ≡ 0 → ⊥) → (new.live ≡ 1) × does old.value new.value)
+On does status old new =
+    (old.live ≡ 0 → (status ≡ 100) × (new.live ≡ 0)) × ((old.live ≡ 0 → ⊥) → (new.live ≡ 1) × does old.value new.value)
 
 -- a call on the kernel that a handle holds
 abbrev pub Served : (ℕ → System → Type 0) → (ℕ → System → System → Type 0) → ℕ → Handle → Handle → Type 0

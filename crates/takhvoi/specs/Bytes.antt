@@ -5,8 +5,11 @@ use Rattle.geos_calls.specs.Calls.{load8, store}
 use Rattle.geos_calls.specs.Effects.{Call, Reference}
 use Rattle.geos_kernel.specs.Kernel.{Calls}
 use Rattle.geos_kernel.specs.View.{KernelState}
+use Rattle.geos_terms.specs.declared.name.Name.{Name}
 use Rattle.takhvoi.specs.declared.system.System.{System}
-use Rattle.takhvoi.specs.Answers.{IsStatus, ReadsDevice}
+use Rattle.takhvoi.specs.declared.handle.Handle.{Handle}
+use Rattle.takhvoi.specs.Answers.{IsStatus, ReadsDevice, Served}
+use Rattle.takhvoi.specs.Own.{MayNotRead, MayNotWrite}
 
 -- the kernel answered with a reference as the call's row says, of n bytes, and read the device at most; the number is that of its reply
 abbrev pub IsReferred : Call Reference → ℕ → ℕ → System → System → Type 0
@@ -39,4 +42,13 @@ IsMeasured call n status old new =
 abbrev pub IsWritten : Call Reference → ℕ → List ℕ → ℕ → System → System → Type 0
 IsWritten call at bytes status old new =
     (reply : Result Reference Refusal) × Calls (Unit {0}) call reply old.kernel.core old.kernel.core × IsStatus reply status
-    × OnErr reply (new.kernel ≡ old.kernel) × (new.kernel.device ≡ old.kernel.device) × IfOk reply (λ ref. Calls (Unit {0}) (store ref at bytes) (Ok tt) old.kernel.core new.kernel.core)
+    × OnErr reply (new.kernel ≡ old.kernel) × (new.kernel.device ≡ old.kernel.device)
+    × IfOk reply (λ ref. Calls (Unit {0}) (store ref at bytes) (Ok tt) old.kernel.core new.kernel.core)
+
+-- the call on the kernel of a handle copied out these n bytes from an offset on, of what the row gives that refers to so many up to their end
+abbrev pub ServesRead : Name → (ℕ → Call Reference) → ℕ → ℕ → List ℕ → ℕ → Handle → Handle → Type 0
+ServesRead name row at n bytes = Served (MayNotRead name at n) (IsCopied (row (at + n)) at bytes)
+
+-- the same of bytes that were stored
+abbrev pub ServesWrite : Name → (ℕ → Call Reference) → ℕ → List ℕ → ℕ → Handle → Handle → Type 0
+ServesWrite name row at bytes = Served (MayNotWrite name at (length bytes)) (IsWritten (row (at + length bytes)) at bytes)

@@ -1,5 +1,6 @@
 -- What loading and running images come to.
-use Rattle.std.specs.Prelude.{◌≡◌, ◌⊎◌, ◌≤◌, ℕ, [], false, true, Some, None, IfSome, List, length, take, unwrap_or, slice_get, Ok}
+use Rattle.std.specs.Prelude.{◌≡◌, ◌⊎◌, ◌≤◌, ℕ, [], false, true, Some, None, IfSome, IsSomeAnd, List, length, take, unwrap_or, slice_get}
+use Rattle.std.specs.Prelude.{Ok}
 use Rattle.geos_image.specs.Legal.{text_end}
 use Rattle.geos_image.specs.Parts.{Parts}
 use Rattle.geos_image.specs.Reading.{image_at}
@@ -16,6 +17,8 @@ use Rattle.geos_machine.specs.Runs.{OpensAsOneOf, RanWith, Throughout, begin, ke
 use Rattle.host_device.specs.Journal.{bytes_of, journal_of, medium}
 use Rattle.host_device.specs.declared.device.HostDevice.{HostDevice}
 use Rattle.takhvoi.specs.declared.system.System.{System}
+use Rattle.takhvoi.specs.declared.handle.Handle.{Handle}
+use Rattle.takhvoi.specs.Answers.{Done, On}
 use Rattle.takhvoi.specs.Journal.{Leads, MayStopAt}
 use Rattle.takhvoi.specs.Own.{IsPending}
 
@@ -86,10 +89,30 @@ pub record HasRun (n routine : ℕ) (words handles after room output : List ℕ)
   pub steps_are : steps ≡ outcome.steps
   pub within : IfSome (slice_get image.routines routine) (λ r. steps ≤ r.budget)
 
--- the routine with the number has this name
+-- the run on a kernel, or why it does not begin
+abbrev pub EndsRun : ℕ → ℕ → List ℕ → List ℕ → List ℕ → List ℕ → List ℕ → ℕ → ℕ → ℕ → System → System → Type 0
+EndsRun n routine words handles after room output count steps =
+    Done (MayNotRun n routine words handles) (HasRun n routine words handles after room output count steps)
+
+-- the same on the kernel that a handle holds
+abbrev pub ServesRun : ℕ → ℕ → List ℕ → List ℕ → List ℕ → List ℕ → List ℕ → ℕ → ℕ → ℕ → Handle → Handle → Type 0
+ServesRun n routine words handles after room output count steps status =
+    On (EndsRun n routine words handles after room output count steps status) status
+
+-- the routine has this name
 abbrev pub IsNamed : List ℕ → Routine → Type 0
 IsNamed name routine = take (unwrap_or (text_end routine.name) 16) routine.name ≡ name
 
 -- the number stands for an image, whose routine with the other number has this name
 abbrev pub HasRoutine : System → ℕ → List ℕ → ℕ → Type 0
-HasRoutine system n name r = (image : Parts) × StandsFor system n image × IfSome (slice_get image.routines r) (IsNamed name)
+HasRoutine system n name r = (image : Parts) × StandsFor system n image × IsSomeAnd (slice_get image.routines r) (IsNamed name)
+
+-- no routine of the image has this name
+abbrev pub NoneIsNamed : List ℕ → Parts → Type 0
+NoneIsNamed name image = (r : ℕ) → IfSome (slice_get image.routines r) (λ routine. IsNamed name routine → ⊥)
+
+-- the call tells the number of the image's routine with this name; or it answers 114, and there is no image or none of its routines has the name
+abbrev pub FindsRoutine : ℕ → List ℕ → ℕ → ℕ → System → System → Type 0
+FindsRoutine n name r status old new =
+    (new ≡ old) × (status ≡ 0 → HasRoutine old n name r)
+    × ((status ≡ 0 → ⊥) → (status ≡ 114) × ((image : Parts) → StandsFor old n image → NoneIsNamed name image))

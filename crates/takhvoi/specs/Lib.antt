@@ -5,5 +5,6 @@ pub mod Images
 pub mod Journal
 pub mod Names
 pub mod Own
+pub mod Room
 pub mod Starts
 pub mod Texts

@@ -5,7 +5,7 @@ ghost use Rattle.geos_calls.specs.ArrayCalls as arrays;
 ghost use Rattle.geos_calls.specs.Calls as table;
 ghost use Rattle.geos_calls.specs.ChunkCalls.{least, refer_row};
 ghost use Rattle.takhvoi.specs.Answers.{Done, On, Served};
-ghost use Rattle.takhvoi.specs.Bytes.{IsCopied, IsMeasured, IsWritten};
+ghost use Rattle.takhvoi.specs.Bytes.{IsCopied, IsMeasured, IsWritten, ServesRead, ServesWrite};
 ghost use Rattle.takhvoi.specs.Names.{name_of};
 ghost use Rattle.takhvoi.specs.Own.{MayNotRead, MayNotWrite, NotLocked};
 
@@ -120,7 +120,7 @@ pub extern "C" fn takhvoi_read(
     at: u16,
     into: &mut [u8],
 ) -> u32
-    ensures { Served (MayNotRead (name_of block) at (length into.old)) (IsCopied (table.deref (name_of block) chunk (at + length into.old)) at into.new) result handle.old handle.new }
+    ensures { ServesRead (name_of block) (table.deref (name_of block) chunk) at (length into.old) into.new result handle.old handle.new }
 {
     match end_of(at, into.len()) {
         Some(end) => read(
@@ -146,7 +146,7 @@ pub extern "C" fn takhvoi_caread(
     at: u16,
     into: &mut [u8],
 ) -> u32
-    ensures { Served (MayNotRead (name_of block) at (length into.old)) (IsCopied (arrays.caelt (name_of block) chunk index (at + length into.old)) at into.new) result handle.old handle.new }
+    ensures { ServesRead (name_of block) (arrays.caelt (name_of block) chunk index) at (length into.old) into.new result handle.old handle.new }
 {
     match end_of(at, into.len()) {
         Some(end) => read(
@@ -227,7 +227,7 @@ pub extern "C" fn takhvoi_write(
     at: u16,
     from: &[u8],
 ) -> u32
-    ensures { Served (MayNotWrite (name_of block) at (length from.now)) (IsWritten (table.deref (name_of block) chunk (at + length from.now)) at from.now) result handle.old handle.new }
+    ensures { ServesWrite (name_of block) (table.deref (name_of block) chunk) at from.now result handle.old handle.new }
 {
     match end_of(at, from.len()) {
         Some(end) => write(
@@ -253,7 +253,7 @@ pub extern "C" fn takhvoi_cawrite(
     at: u16,
     from: &[u8],
 ) -> u32
-    ensures { Served (MayNotWrite (name_of block) at (length from.now)) (IsWritten (arrays.caelt (name_of block) chunk index (at + length from.now)) at from.now) result handle.old handle.new }
+    ensures { ServesWrite (name_of block) (arrays.caelt (name_of block) chunk index) at from.now result handle.old handle.new }
 {
     match end_of(at, from.len()) {
         Some(end) => write(

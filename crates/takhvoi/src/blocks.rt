@@ -6,6 +6,7 @@ ghost use Rattle.block_handles.specs.Store.{locks_of};
 ghost use Rattle.vm_blocks.specs.Blocks.{is_marked_in};
 ghost use Rattle.vm_blocks.specs.View.{held_at};
 ghost use Rattle.geos_calls.specs.Calls as table;
+ghost use Rattle.geos_kernel.specs.Kernel.{NewHasNoRoom};
 ghost use Rattle.takhvoi.specs.Answers.{Done, IsAnswer, IsFlag, IsTold, Looks, Served};
 ghost use Rattle.takhvoi.specs.Names.{name_of};
 ghost use Rattle.takhvoi.specs.Own.{NoOwn, NotLocked};
@@ -17,7 +18,8 @@ use crate::system::System;
 use std::alloc::Global;
 
 fn mnew(system: &mut System, told: &mut u16) -> u32
-    ensures { Done NoOwn (IsTold table.mnew told.new) result system.old system.new }
+    ensures done { Done NoOwn (IsTold table.mnew told.new) result system.old system.new }
+    ensures no_room { result ≡ 4 → NewHasNoRoom system.old.kernel.core system.new.kernel.core }
 {
     tell(system.kernel.mnew(), told)
 }
@@ -25,7 +27,8 @@ fn mnew(system: &mut System, told: &mut u16) -> u32
 /// Makes a block of 64 bytes, locks it, and tells its handle.
 #[unsafe(no_mangle)]
 pub extern "C" fn takhvoi_mnew(alloc: Global, handle: &mut Handle, told: &mut u16) -> u32
-    ensures { Served NoOwn (IsTold table.mnew told.new) result handle.old handle.new }
+    ensures served { Served NoOwn (IsTold table.mnew told.new) result handle.old handle.new }
+    ensures no_room { result ≡ 4 → NewHasNoRoom handle.old.value.kernel.core handle.new.value.kernel.core }
 {
     let Some(mut system) = take(alloc, handle) else {
         return NO_KERNEL;

@@ -3,16 +3,18 @@
 ghost use Rattle.std.specs.Prelude.{◌≡◌, false, IsFalse, IsTrue};
 ghost use Rattle.block_handles.specs.Names.{slot_of};
 ghost use Rattle.block_handles.specs.Store.{bytes_of};
+ghost use Rattle.geos_terms.specs.Edits.{alloc as allocate, insert_bytes, realloc};
 ghost use Rattle.geos_terms.specs.Heap.{IsCompact};
 ghost use Rattle.geos_terms.specs.declared.name.Owner.TheVariants as owner;
 ghost use Rattle.vm_blocks.specs.Blocks.{is_marked_in};
 ghost use Rattle.vm_blocks.specs.View.{held_at};
 ghost use Rattle.geos_calls.specs.Calls as table;
-ghost use Rattle.geos_calls.specs.ChunkCalls.{ask_row, change_row, make_row};
+ghost use Rattle.geos_calls.specs.ChunkCalls.{ask_row, change_edit, change_row, make_edit, make_row};
 ghost use Rattle.geos_kernel.specs.View.{MayChange};
 ghost use Rattle.takhvoi.specs.Answers.{Done, IsAnswer, IsTold, Served};
 ghost use Rattle.takhvoi.specs.Names.{name_of};
 ghost use Rattle.takhvoi.specs.Own.{MayNotChange, NotLocked};
+ghost use Rattle.takhvoi.specs.Room.{EditHasNoRoom};
 
 use crate::handle::Handle;
 use crate::held::{put, take};
@@ -36,6 +38,7 @@ pub(crate) fn may_change(system: &System, name: Name) -> bool
 fn change_in(system: &mut System, name: Name, change: Change) -> u32
     ensures done { Done (MayNotChange name) (IsAnswer (change_row name change)) result system.old system.new }
     ensures compact { change ≡ Change.Lcontract → result ≡ 0 → IsCompact (bytes_of system.new.kernel.core.blocks (slot_of name)) }
+    ensures no_room { result ≡ 4 → EditHasNoRoom (change_edit change) name system.old system.new }
 {
     if system.kernel.locks(name) == 0 {
         return NOT_LOCKED;
@@ -50,6 +53,7 @@ fn change_in(system: &mut System, name: Name, change: Change) -> u32
 pub(crate) fn change(alloc: Global, handle: &mut Handle, block: u32, change: Change) -> u32
     ensures served { Served (MayNotChange (name_of block)) (IsAnswer (change_row (name_of block) change)) result handle.old handle.new }
     ensures compact { change ≡ Change.Lcontract → result ≡ 0 → IsCompact (bytes_of handle.new.value.kernel.core.blocks (slot_of (name_of block))) }
+    ensures no_room { result ≡ 4 → EditHasNoRoom (change_edit change) (name_of block) handle.old.value handle.new.value }
 {
     let Some(mut system) = take(alloc, handle) else {
         return NO_KERNEL;
@@ -60,7 +64,8 @@ pub(crate) fn change(alloc: Global, handle: &mut Handle, block: u32, change: Cha
 }
 
 fn make_in(system: &mut System, name: Name, make: Make, told: &mut u16) -> u32
-    ensures { Done (MayNotChange name) (IsTold (make_row name make) told.new) result system.old system.new }
+    ensures done { Done (MayNotChange name) (IsTold (make_row name make) told.new) result system.old system.new }
+    ensures no_room { result ≡ 4 → EditHasNoRoom (make_edit make) name system.old system.new }
 {
     if system.kernel.locks(name) == 0 {
         return NOT_LOCKED;
@@ -79,7 +84,8 @@ pub(crate) fn make(
     make: Make,
     told: &mut u16,
 ) -> u32
-    ensures { Served (MayNotChange (name_of block)) (IsTold (make_row (name_of block) make) told.new) result handle.old handle.new }
+    ensures served { Served (MayNotChange (name_of block)) (IsTold (make_row (name_of block) make) told.new) result handle.old handle.new }
+    ensures no_room { result ≡ 4 → EditHasNoRoom (make_edit make) (name_of block) handle.old.value handle.new.value }
 {
     let Some(mut system) = take(alloc, handle) else {
         return NO_KERNEL;
@@ -119,7 +125,8 @@ pub extern "C" fn takhvoi_lalloc(
     len: u16,
     told: &mut u16,
 ) -> u32
-    ensures { Served (MayNotChange (name_of block)) (IsTold (table.lalloc (name_of block) len) told.new) result handle.old handle.new }
+    ensures served { Served (MayNotChange (name_of block)) (IsTold (table.lalloc (name_of block) len) told.new) result handle.old handle.new }
+    ensures no_room { result ≡ 4 → EditHasNoRoom (allocate len) (name_of block) handle.old.value handle.new.value }
 {
     make(alloc, handle, block, Make::Lalloc { n: len }, told)
 }
@@ -141,7 +148,8 @@ pub extern "C" fn takhvoi_lrealloc(
     chunk: u16,
     len: u16,
 ) -> u32
-    ensures { Served (MayNotChange (name_of block)) (IsAnswer (table.lrealloc (name_of block) chunk len)) result handle.old handle.new }
+    ensures served { Served (MayNotChange (name_of block)) (IsAnswer (table.lrealloc (name_of block) chunk len)) result handle.old handle.new }
+    ensures no_room { result ≡ 4 → EditHasNoRoom (realloc chunk len) (name_of block) handle.old.value handle.new.value }
 {
     change(alloc, handle, block, Change::Lrealloc { c: chunk, n: len })
 }
@@ -156,7 +164,8 @@ pub extern "C" fn takhvoi_lins(
     at: u16,
     len: u16,
 ) -> u32
-    ensures { Served (MayNotChange (name_of block)) (IsAnswer (table.lins (name_of block) chunk at len)) result handle.old handle.new }
+    ensures served { Served (MayNotChange (name_of block)) (IsAnswer (table.lins (name_of block) chunk at len)) result handle.old handle.new }
+    ensures no_room { result ≡ 4 → EditHasNoRoom (insert_bytes chunk at len) (name_of block) handle.old.value handle.new.value }
 {
     change(
         alloc,

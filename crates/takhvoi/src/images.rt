@@ -1,12 +1,12 @@
 //! Images are loaded, and their routines run.
 
 ghost use Rattle.std.specs.Option.{option_copied};
-ghost use Rattle.std.specs.Prelude.{◌≡◌, ◌≤◌, ◌⊎◌, ℕ, Err, Some, IfNone, IfSome, length, slice_get, take};
+ghost use Rattle.std.specs.Prelude.{◌≡◌, ◌≤◌, ◌⊎◌, ℕ, Err, Some, IfNone, IfSome, IsSomeAnd, length, slice_get, take};
 ghost use Rattle.geos_image.specs.Parts.{Parts};
 ghost use Rattle.geos_image.specs.Reading.{image_at};
-ghost use Rattle.takhvoi.specs.Answers.{Done, Looks, On, Served};
+ghost use Rattle.takhvoi.specs.Answers.{On};
 ghost use Rattle.geos_verify.specs.RuleText.{rule_number};
-ghost use Rattle.takhvoi.specs.Images.{HasRoutine, HasRun, IsLoaded, IsNamed, IsRejected, IsUnloaded, MayNotRun};
+ghost use Rattle.takhvoi.specs.Images.{EndsRun, FindsRoutine, IsLoaded, IsNamed, IsRejected, IsUnloaded, NoneIsNamed, ServesRun};
 
 use crate::handle::Handle;
 use crate::held::{put, take};
@@ -186,7 +186,7 @@ fn run_in(
     count: &mut u32,
     steps: &mut u32,
 ) -> u32
-    ensures { Done (MayNotRun number routine words.old handles.now) (HasRun number routine words.old handles.now words.new output.old output.new count.new steps.new) result system.old system.new }
+    ensures { EndsRun number routine words.old handles.now words.new output.old output.new count.new steps.new result system.old system.new }
 {
     let System {
         kernel,
@@ -229,7 +229,7 @@ pub extern "C" fn takhvoi_run(
     count: &mut u32,
     steps: &mut u32,
 ) -> u32
-    ensures { Served (MayNotRun number routine words.old handles.now) (HasRun number routine words.old handles.now words.new output.old output.new count.new steps.new) result handle.old handle.new }
+    ensures { ServesRun number routine words.old handles.now words.new output.old output.new count.new steps.new result handle.old handle.new }
 {
     let Some(mut system) = take(alloc, handle) else {
         return NO_KERNEL;
@@ -248,9 +248,10 @@ pub extern "C" fn takhvoi_run(
     status
 }
 
-/// The number of the first routine with a name.
+/// The number of the routine with a name. No two routines of an image have the same.
 fn routine_named(image: &Image, name: &[u8]) -> Option<u16>
-    ensures { IfSome result (λ r. IfSome (slice_get image.now.routines r) (IsNamed name.now)) }
+    ensures some { IfSome result (λ r. IsSomeAnd (slice_get image.now.routines r) (IsNamed name.now)) }
+    ensures none { IfNone result (NoneIsNamed name.now image.now) }
 {
     for r in 0..image.count() {
         if image.routine(r).name_text() == name {
@@ -261,7 +262,7 @@ fn routine_named(image: &Image, name: &[u8]) -> Option<u16>
 }
 
 fn routine_in(system: &System, number: u32, name: &[u8], routine: &mut u16) -> u32
-    ensures { result ≡ 0 → HasRoutine system.now number name.now routine.new }
+    ensures { FindsRoutine number name.now routine.new result system.now system.now }
 {
     let Some(checked) = image_of(&system.images, number) else {
         return NOT_ADMITTED;
@@ -275,7 +276,7 @@ fn routine_in(system: &System, number: u32, name: &[u8], routine: &mut u16) -> u
     }
 }
 
-/// Tells the number of the first routine of an image with a name.
+/// Tells the number of the routine of an image with a name.
 #[unsafe(no_mangle)]
 pub extern "C" fn takhvoi_routine(
     alloc: Global,
@@ -284,8 +285,7 @@ pub extern "C" fn takhvoi_routine(
     name: &[u8],
     routine: &mut u16,
 ) -> u32
-    ensures same { On (λ old new. new ≡ old) result handle.old handle.new }
-    ensures named { result ≡ 0 → HasRoutine handle.old.value number name.now routine.new }
+    ensures { On (FindsRoutine number name.now routine.new result) result handle.old handle.new }
 {
     let Some(system) = take(alloc, handle) else {
         return NO_KERNEL;

@@ -1,8 +1,11 @@
 //! Calls on groups of the VM file, and on items.
 
+ghost use Rattle.std.specs.Prelude.{◌≡◌};
+ghost use Rattle.geos_terms.specs.Edits.{alloc as allocate, delete_bytes, free, insert_bytes, realloc};
 ghost use Rattle.geos_terms.specs.Names.{vm};
-ghost use Rattle.geos_calls.specs.ChunkCalls.{change_row, make_row};
+ghost use Rattle.geos_calls.specs.ChunkCalls.{change_edit, change_row, make_edit, make_row};
 ghost use Rattle.geos_calls.specs.ItemCalls as table;
+ghost use Rattle.geos_kernel.specs.Kernel.{ItemHasNoRoom, ListedHasNoRoom, NewListedHasNoRoom};
 ghost use Rattle.takhvoi.specs.Answers.{Done, IsAnswer, IsAnswerRead, IsTold, IsToldRead, IsToldTwo, Served};
 ghost use Rattle.takhvoi.specs.Bytes.{IsReferred};
 ghost use Rattle.takhvoi.specs.Own.{NoOwn};
@@ -15,7 +18,8 @@ use geos_calls::{Change, Make};
 use std::alloc::Global;
 
 fn gnew(system: &mut System, told: &mut u16) -> u32
-    ensures { Done NoOwn (IsTold table.gnew told.new) result system.old system.new }
+    ensures done { Done NoOwn (IsTold table.gnew told.new) result system.old system.new }
+    ensures no_room { result ≡ 4 → NewListedHasNoRoom system.old.kernel.core system.new.kernel.core }
 {
     tell(system.kernel.gnew(), told)
 }
@@ -23,7 +27,8 @@ fn gnew(system: &mut System, told: &mut u16) -> u32
 /// Makes a group, marks it, and tells its handle.
 #[unsafe(no_mangle)]
 pub extern "C" fn takhvoi_gnew(alloc: Global, handle: &mut Handle, told: &mut u16) -> u32
-    ensures { Served NoOwn (IsTold table.gnew told.new) result handle.old handle.new }
+    ensures served { Served NoOwn (IsTold table.gnew told.new) result handle.old handle.new }
+    ensures no_room { result ≡ 4 → NewListedHasNoRoom handle.old.value.kernel.core handle.new.value.kernel.core }
 {
     let Some(mut system) = take(alloc, handle) else {
         return NO_KERNEL;
@@ -53,14 +58,16 @@ pub extern "C" fn takhvoi_gfree(alloc: Global, handle: &mut Handle, group: u16) 
 }
 
 fn make_in(system: &mut System, group: u16, make: Make, told: &mut u16) -> u32
-    ensures { Done NoOwn (IsToldRead (table.on_group group (make_row (vm group) make)) told.new) result system.old system.new }
+    ensures done { Done NoOwn (IsToldRead (table.on_group group (make_row (vm group) make)) told.new) result system.old system.new }
+    ensures no_room { result ≡ 4 → ItemHasNoRoom system.new.kernel.core group (make_edit make) }
 {
     tell(system.kernel.item_make(group, make), told)
 }
 
 /// Makes an item of a group, as the value says, and tells its handle.
 fn make(alloc: Global, handle: &mut Handle, group: u16, make: Make, told: &mut u16) -> u32
-    ensures { Served NoOwn (IsToldRead (table.on_group group (make_row (vm group) make)) told.new) result handle.old handle.new }
+    ensures served { Served NoOwn (IsToldRead (table.on_group group (make_row (vm group) make)) told.new) result handle.old handle.new }
+    ensures no_room { result ≡ 4 → ItemHasNoRoom handle.new.value.kernel.core group (make_edit make) }
 {
     let Some(mut system) = take(alloc, handle) else {
         return NO_KERNEL;
@@ -79,20 +86,23 @@ pub extern "C" fn takhvoi_inew(
     len: u16,
     told: &mut u16,
 ) -> u32
-    ensures { Served NoOwn (IsToldRead (table.inew group len) told.new) result handle.old handle.new }
+    ensures served { Served NoOwn (IsToldRead (table.inew group len) told.new) result handle.old handle.new }
+    ensures no_room { result ≡ 4 → ItemHasNoRoom handle.new.value.kernel.core group (allocate len) }
 {
     make(alloc, handle, group, Make::Lalloc { n: len }, told)
 }
 
 fn change_in(system: &mut System, group: u16, change: Change) -> u32
-    ensures { Done NoOwn (IsAnswerRead (table.on_group group (change_row (vm group) change))) result system.old system.new }
+    ensures done { Done NoOwn (IsAnswerRead (table.on_group group (change_row (vm group) change))) result system.old system.new }
+    ensures no_room { result ≡ 4 → ItemHasNoRoom system.new.kernel.core group (change_edit change) }
 {
     end(system.kernel.item_change(group, change))
 }
 
 /// Changes the items of a group, as the value says.
 fn change(alloc: Global, handle: &mut Handle, group: u16, change: Change) -> u32
-    ensures { Served NoOwn (IsAnswerRead (table.on_group group (change_row (vm group) change))) result handle.old handle.new }
+    ensures served { Served NoOwn (IsAnswerRead (table.on_group group (change_row (vm group) change))) result handle.old handle.new }
+    ensures no_room { result ≡ 4 → ItemHasNoRoom handle.new.value.kernel.core group (change_edit change) }
 {
     let Some(mut system) = take(alloc, handle) else {
         return NO_KERNEL;
@@ -105,7 +115,8 @@ fn change(alloc: Global, handle: &mut Handle, group: u16, change: Change) -> u32
 /// Frees an item.
 #[unsafe(no_mangle)]
 pub extern "C" fn takhvoi_ifree(alloc: Global, handle: &mut Handle, group: u16, item: u16) -> u32
-    ensures { Served NoOwn (IsAnswerRead (table.ifree group item)) result handle.old handle.new }
+    ensures served { Served NoOwn (IsAnswerRead (table.ifree group item)) result handle.old handle.new }
+    ensures no_room { result ≡ 4 → ItemHasNoRoom handle.new.value.kernel.core group (free item) }
 {
     change(alloc, handle, group, Change::Lfree { c: item })
 }
@@ -119,7 +130,8 @@ pub extern "C" fn takhvoi_irealloc(
     item: u16,
     len: u16,
 ) -> u32
-    ensures { Served NoOwn (IsAnswerRead (table.irealloc group item len)) result handle.old handle.new }
+    ensures served { Served NoOwn (IsAnswerRead (table.irealloc group item len)) result handle.old handle.new }
+    ensures no_room { result ≡ 4 → ItemHasNoRoom handle.new.value.kernel.core group (realloc item len) }
 {
     change(alloc, handle, group, Change::Lrealloc { c: item, n: len })
 }
@@ -134,7 +146,8 @@ pub extern "C" fn takhvoi_iins(
     at: u16,
     len: u16,
 ) -> u32
-    ensures { Served NoOwn (IsAnswerRead (table.iins group item at len)) result handle.old handle.new }
+    ensures served { Served NoOwn (IsAnswerRead (table.iins group item at len)) result handle.old handle.new }
+    ensures no_room { result ≡ 4 → ItemHasNoRoom handle.new.value.kernel.core group (insert_bytes item at len) }
 {
     change(
         alloc,
@@ -158,7 +171,8 @@ pub extern "C" fn takhvoi_idel(
     at: u16,
     len: u16,
 ) -> u32
-    ensures { Served NoOwn (IsAnswerRead (table.idel group item at len)) result handle.old handle.new }
+    ensures served { Served NoOwn (IsAnswerRead (table.idel group item at len)) result handle.old handle.new }
+    ensures no_room { result ≡ 4 → ItemHasNoRoom handle.new.value.kernel.core group (delete_bytes item at len) }
 {
     change(
         alloc,
@@ -173,7 +187,8 @@ pub extern "C" fn takhvoi_idel(
 }
 
 fn ilock(system: &mut System, group: u16, item: u16, told: &mut u16) -> u32
-    ensures { Done NoOwn (IsReferred (table.ilock group item 0) told.new) result system.old system.new }
+    ensures done { Done NoOwn (IsReferred (table.ilock group item 0) told.new) result system.old system.new }
+    ensures no_room { result ≡ 4 → ListedHasNoRoom system.new.kernel.core group }
 {
     match system.kernel.ilock(group, item, 0) {
         Ok(span) => {
@@ -193,7 +208,8 @@ pub extern "C" fn takhvoi_ilock(
     item: u16,
     told: &mut u16,
 ) -> u32
-    ensures { Served NoOwn (IsReferred (table.ilock group item 0) told.new) result handle.old handle.new }
+    ensures served { Served NoOwn (IsReferred (table.ilock group item 0) told.new) result handle.old handle.new }
+    ensures no_room { result ≡ 4 → ListedHasNoRoom handle.new.value.kernel.core group }
 {
     let Some(mut system) = take(alloc, handle) else {
         return NO_KERNEL;

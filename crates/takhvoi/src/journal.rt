@@ -100,7 +100,8 @@ pub extern "C" fn takhvoi_step_bytes(
     from: u64,
     into: &mut [u8],
 ) -> u32
-    ensures { Served (NoSuchBytes number from (length into.old)) (Looks (HasBytes (step_at handle.old.value number) from into.new)) result handle.old handle.new }
+    ensures { Served (NoSuchBytes number from (length into.old)) (Looks (HasBytes (step_at handle.old.value number) from into.new))
+        result handle.old handle.new }
 {
     let Some(system) = take(alloc, handle) else {
         return NO_KERNEL;

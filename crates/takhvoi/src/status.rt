@@ -1,6 +1,6 @@
 //! The numbers that calls answer.
 
-ghost use Rattle.std.specs.Prelude.{◌≡◌, ◌≤◌, IfOk};
+ghost use Rattle.std.specs.Prelude.{◌≡◌, ◌≤◌, Err, IfOk};
 ghost use Rattle.geos_terms.specs.Refusals.{refusal_number};
 ghost use Rattle.takhvoi.specs.Answers.{IsStatus};
 ghost use Rattle.takhvoi.specs.Names.{name_of};
@@ -52,6 +52,7 @@ pub(crate) fn name_of(block: u32) -> Name
 pub(crate) fn tell(reply: Result<u16, Refusal>, told: &mut u16) -> u32
     ensures status { IsStatus reply result }
     ensures told { IfOk reply (λ n. told.new ≡ n) }
+    ensures no_room { result ≡ 4 → reply ≡ Err Refusal.NoRoom }
     ensures small { result ≤ 15 }
 {
     match reply {
@@ -66,6 +67,7 @@ pub(crate) fn tell(reply: Result<u16, Refusal>, told: &mut u16) -> u32
 /// The number of a refusal, or 0.
 pub(crate) fn end(reply: Result<(), Refusal>) -> u32
     ensures status { IsStatus reply result }
+    ensures no_room { result ≡ 4 → reply ≡ Err Refusal.NoRoom }
     ensures small { result ≤ 15 }
 {
     match reply {
@@ -75,8 +77,10 @@ pub(crate) fn end(reply: Result<(), Refusal>) -> u32
 }
 
 /// The number of a refusal.
+#[tactic(auto, using(crate::proofs::Refusing::only_no_room))]
 pub(crate) fn number(refusal: Refusal) -> u32
     ensures number { result ≡ refusal_number refusal }
+    ensures no_room { result ≡ 4 → refusal ≡ Refusal.NoRoom }
     ensures small { result ≤ 15 }
 {
     u32::from(refusal.number())

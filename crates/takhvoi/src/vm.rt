@@ -1,7 +1,9 @@
 //! Calls on blocks of the VM file, and on the file.
 
+ghost use Rattle.std.specs.Prelude.{◌≡◌};
 ghost use Rattle.geos_terms.specs.Names.{vm};
 ghost use Rattle.geos_calls.specs.VmCalls as table;
+ghost use Rattle.geos_kernel.specs.Kernel.{ListedHasNoRoom, NewListedHasNoRoom};
 ghost use Rattle.takhvoi.specs.Answers.{Done, IsAnswer, IsAnswerRead, IsTold, Served};
 ghost use Rattle.takhvoi.specs.Journal.{IsCommitted};
 ghost use Rattle.takhvoi.specs.Own.{MayNotCommit, NoOwn, NotLocked};
@@ -16,7 +18,8 @@ use std::alloc::Global;
 use vm_file::How;
 
 fn vnew(system: &mut System, uid: u16, told: &mut u16) -> u32
-    ensures { Done NoOwn (IsTold (table.vnew uid) told.new) result system.old system.new }
+    ensures done { Done NoOwn (IsTold (table.vnew uid) told.new) result system.old system.new }
+    ensures no_room { result ≡ 4 → NewListedHasNoRoom system.old.kernel.core system.new.kernel.core }
 {
     tell(system.kernel.vnew(uid), told)
 }
@@ -24,7 +27,8 @@ fn vnew(system: &mut System, uid: u16, told: &mut u16) -> u32
 /// Makes a block of the VM file with a user ID, marks it, locks it, and tells its handle.
 #[unsafe(no_mangle)]
 pub extern "C" fn takhvoi_vnew(alloc: Global, handle: &mut Handle, uid: u16, told: &mut u16) -> u32
-    ensures { Served NoOwn (IsTold (table.vnew uid) told.new) result handle.old handle.new }
+    ensures served { Served NoOwn (IsTold (table.vnew uid) told.new) result handle.old handle.new }
+    ensures no_room { result ≡ 4 → NewListedHasNoRoom handle.old.value.kernel.core handle.new.value.kernel.core }
 {
     let Some(mut system) = take(alloc, handle) else {
         return NO_KERNEL;
@@ -35,7 +39,8 @@ pub extern "C" fn takhvoi_vnew(alloc: Global, handle: &mut Handle, uid: u16, tol
 }
 
 fn vlock(system: &mut System, block: u16) -> u32
-    ensures { Done NoOwn (IsAnswerRead (table.vlock block)) result system.old system.new }
+    ensures done { Done NoOwn (IsAnswerRead (table.vlock block)) result system.old system.new }
+    ensures no_room { result ≡ 4 → ListedHasNoRoom system.new.kernel.core block }
 {
     end(system.kernel.vlock(block))
 }
@@ -43,7 +48,8 @@ fn vlock(system: &mut System, block: u16) -> u32
 /// Locks a block of the VM file once more, which brings it into memory.
 #[unsafe(no_mangle)]
 pub extern "C" fn takhvoi_vlock(alloc: Global, handle: &mut Handle, block: u16) -> u32
-    ensures { Served NoOwn (IsAnswerRead (table.vlock block)) result handle.old handle.new }
+    ensures served { Served NoOwn (IsAnswerRead (table.vlock block)) result handle.old handle.new }
+    ensures no_room { result ≡ 4 → ListedHasNoRoom handle.new.value.kernel.core block }
 {
     let Some(mut system) = take(alloc, handle) else {
         return NO_KERNEL;

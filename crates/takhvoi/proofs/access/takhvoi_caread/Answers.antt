@@ -9,6 +9,6 @@ use Rattle.takhvoi.proofs.access.takhvoi_caread.Goals as goal
 
 pub returns-in-Some : goal.returns-in-Some
 returns-in-Some c =
-    subst (λ n. Served (MayNotRead (name_of c.args.block) c.args.at (length c.args.into.now)) (IsCopied (table.caelt (name_of c.args.block) c.args.chunk c.args.index n) c.args.at c.read.new.into)
-    c.read.result c.args.handle.now c.read.new.handle)
-    c.in-Some.ensures.some c.read.ensures
+    let name = name_of c.args.block in
+    subst (λ n. Served (MayNotRead name c.args.at (length c.args.into.now)) (IsCopied (table.caelt name c.args.chunk c.args.index n) c.args.at c.read.new.into)
+    c.read.result c.args.handle.now c.read.new.handle) c.in-Some.ensures.some c.read.ensures

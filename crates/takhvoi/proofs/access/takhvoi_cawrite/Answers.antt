@@ -9,6 +9,7 @@ use Rattle.takhvoi.proofs.access.takhvoi_cawrite.Goals as goal
 
 pub returns-in-Some : goal.returns-in-Some
 returns-in-Some c =
-    subst (λ n. Served (MayNotWrite (name_of c.args.block) c.args.at (length c.args.from.now)) (IsWritten (table.caelt (name_of c.args.block) c.args.chunk c.args.index n) c.args.at c.args.from.now)
-    c.write.result c.args.handle.now c.write.new.handle)
-    c.in-Some.ensures.some c.write.ensures
+    let name = name_of c.args.block in
+    let from = c.args.from.now in
+    subst (λ n. Served (MayNotWrite name c.args.at (length from)) (IsWritten (table.caelt name c.args.chunk c.args.index n) c.args.at from)
+    c.write.result c.args.handle.now c.write.new.handle) c.in-Some.ensures.some c.write.ensures

@@ -13,8 +13,12 @@ returns-in-Ok c =
     let s = c.args.system.now.kernel.core in
     let gives = c.in-Ok.ensures.gives in
     let told = given-span s c.in-Ok.span gives.0 (λ ref. Calls (Unit {0}) (store ref c.args.at c.args.from.now) (Ok tt) s c.store.new.self.core)
-    gives.2 c.store.ensures.row in
-    (refl, refl, (λ _. (gives.0, gives.1, told.0, given-no-refusal s c.in-Ok.span gives.0 _ gives.2, c.store.ensures.vm.device, told.1)), λ past. absurd (past-none past))
+    gives.2 c.store.ensures.row in (
+      refl,
+      refl,
+      (λ _. (gives.0, gives.1, told.0, given-no-refusal s c.in-Ok.span gives.0 _ gives.2, c.store.ensures.vm.device, told.1)),
+      λ past. absurd (past-none past),
+    )
   where
     past-none : 100 ≤ 0 → ⊥
     past-none h = omega arith

@@ -44,7 +44,8 @@ returns c =
         leads = λ hosted. subst (λ (k : KernelOn HostDevice). Leads (bytes_of old.device) k.device) (sym (c.rest.ensures.hosted hosted))
             (leads-from old.device left begins goes);
         stops = λ hosted f is found stopped. ((subst (λ s. RanWith (Unit {0}) (Throughout medium old.device left) image c.args.routine
-            c.args.words.now c.args.handles.now old.core s outcome f) (sym c.rest.ensures.core) (ran f is)).stops tt).1 found (since-then old.device left begins found
+            c.args.words.now c.args.handles.now old.core s outcome f) (sym c.rest.ensures.core) (ran f is)).stops tt).1 found
+            (since-then old.device left begins found
             (subst (λ (k : KernelOn HostDevice). MayStopAt k.device found) (c.rest.ensures.hosted hosted) stopped));
         alone = c.rest.ensures.alone;
         words_out = refl;

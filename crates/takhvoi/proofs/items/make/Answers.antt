@@ -8,8 +8,8 @@ use Rattle.takhvoi.specs.Own.{NoOwn}
 use Rattle.takhvoi.proofs.Calling.{served}
 use Rattle.takhvoi.proofs.items.make.Goals as goal
 
-pub returns : goal.returns
-returns c =
+pub returns-clause-served : goal.returns-clause-served
+returns-clause-served c =
     let came = IsToldRead (table.on_group c.args.group (make_row (vm c.args.group) c.args.make)) c.make_in-status.new.told in
     served NoOwn came c.make_in-status.result c.args.handle.now c.put.new.handle _ _ c.in-Some.ensures.some.0
     (c.deref_mut.ensures.value ∙ c.in-Some.ensures.some.1) c.put.ensures.live c.put.ensures.value c.make_in-status.ensures

@@ -3,8 +3,8 @@ use Rattle.std.proofs.Common.{refl, arith}
 use Rattle.takhvoi.proofs.Notes.{reads-device}
 use Rattle.takhvoi.proofs.items.make_in.Goals as goal
 
-pub returns : goal.returns
-returns c = (
+pub returns-clause-done : goal.returns-clause-done
+returns-clause-done c = (
   refl,
   refl,
   (λ _. (
