@@ -206,8 +206,9 @@ TAKHVOI_CALL uint32_t takhvoi_isetmap(takhvoi_kernel *kernel, uint16_t group, ui
 
 /* Commits, which want that no block of the file is locked, and that the host has performed what was noted. Each happens whole or not at all.
  * They do not change a file of the system, but note what is to be written: for a takhvoi_file take takhvoi_file_update, takhvoi_file_save and
- * takhvoi_file_revert. After these three, takhvoi_file_flush or takhvoi_file_close changes the file. If a commit is refused, blocks and marks
- * are as they were, and what is kept is as follows.
+ * takhvoi_file_revert. After these three, takhvoi_file_flush or takhvoi_file_close changes the file. Until then each call that would change the
+ * VM file or one of its blocks answers TAKHVOI_PENDING, and so do commits and runs. If a commit is refused, blocks and marks are as they were,
+ * and what is kept is as follows.
  *
  *   - TAKHVOI_MEMORY: nothing was begun, and the commit may be called again.
  *   - TAKHVOI_DISK: memory was refused after the commit had begun. If takhvoi_is_sure tells 1, all is as after TAKHVOI_MEMORY. If it tells 0,
@@ -236,7 +237,8 @@ TAKHVOI_CALL uint32_t takhvoi_unload(takhvoi_kernel *kernel, uint32_t image);
 TAKHVOI_CALL uint32_t takhvoi_routine(takhvoi_kernel *kernel, uint32_t image, const uint8_t *name, size_t name_len, uint16_t *routine);
 /* Runs a public routine: `words` are w0 to w7, before and after. `lent` has the handle of a locked block of the VM file for each slot that the
  * routine borrows, and 0 for the others; no other block of the file is locked. Of the `count` words that it puts out, as many as there is room
- * for come into `output`. What the routine commits is noted, as by the commits above: for a takhvoi_file take takhvoi_file_run. */
+ * for come into `output`. What the routine commits is noted, as by the commits above: for a takhvoi_file take takhvoi_file_run. After this one, as
+ * after takhvoi_save, changes answer TAKHVOI_PENDING until takhvoi_file_flush has performed what is noted. */
 TAKHVOI_CALL uint32_t takhvoi_run(takhvoi_kernel *kernel, uint32_t image, uint16_t routine, uint16_t words[8], const uint16_t lent[4],
                                   uint16_t *output, size_t room, uint32_t *count, uint32_t *steps);
 

@@ -29,7 +29,8 @@ TAKHVOI_CALL uint32_t takhvoi_file_open(takhvoi_file *file, const char *path, ui
 TAKHVOI_CALL uint32_t takhvoi_file_create(takhvoi_file *file, const char *path, uint32_t area, uint32_t region);
 
 /* A commit, of which nothing is answered as done before the file has it. DISK may also come where the kernel has committed and the file
- * refuses: then the file has what was kept before or after, and the next flush goes on. */
+ * refuses: then the file has what was kept before or after. The next flush, commit or run goes on; until one is done, changes of the VM file
+ * answer TAKHVOI_PENDING. */
 TAKHVOI_CALL uint32_t takhvoi_file_update(takhvoi_file *file);
 TAKHVOI_CALL uint32_t takhvoi_file_save(takhvoi_file *file);
 TAKHVOI_CALL uint32_t takhvoi_file_revert(takhvoi_file *file);

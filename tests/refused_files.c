@@ -73,9 +73,24 @@ static void spell(char letter, uint8_t bytes[LEN]) {
 static uint32_t put(takhvoi_file *file, uint16_t block, char letter) {
     uint8_t bytes[LEN];
     spell(letter, bytes);
-    if (takhvoi_vlock(&file->kernel, block) != TAKHVOI_DONE || takhvoi_vdirty(&file->kernel, block) != TAKHVOI_DONE) return TAKHVOI_NOT_LOCKED;
-    uint32_t status = takhvoi_write(&file->kernel, TAKHVOI_VM(block), 16, 0, bytes, LEN);
+    if (takhvoi_vlock(&file->kernel, block) != TAKHVOI_DONE) return TAKHVOI_NOT_LOCKED;
+    uint32_t status = takhvoi_vdirty(&file->kernel, block);
+    if (status == TAKHVOI_DONE) status = takhvoi_write(&file->kernel, TAKHVOI_VM(block), 16, 0, bytes, LEN);
     return takhvoi_unlock(&file->kernel, TAKHVOI_VM(block)) == TAKHVOI_DONE ? status : TAKHVOI_NOT_LOCKED;
+}
+
+/* What is noted has to be performed before the VM file changes; blocks of memory change. */
+static void try_changes(takhvoi_file *file, uint16_t block) {
+    takhvoi_kernel *k = &file->kernel;
+    uint16_t told, chunk;
+    want(put(file, block, 'x') == TAKHVOI_PENDING, "a block is marked");
+    want(takhvoi_vnew(k, 2, &told) == TAKHVOI_PENDING && takhvoi_gnew(k, &told) == TAKHVOI_PENDING, "a block is made");
+    want(takhvoi_vfree(k, block) == TAKHVOI_PENDING && takhvoi_gfree(k, block) == TAKHVOI_PENDING, "a block is freed");
+    want(takhvoi_vsetmap(k, block) == TAKHVOI_PENDING && takhvoi_isetmap(k, 0, 0) == TAKHVOI_PENDING, "the map changes");
+    want(takhvoi_inew(k, 1, 1, &told) == TAKHVOI_PENDING && takhvoi_ifree(k, 1, 16) == TAKHVOI_PENDING, "an item changes");
+    want(takhvoi_mnew(k, &told) == TAKHVOI_DONE, "no block of memory is made");
+    want(takhvoi_lalloc(k, told, 8, &chunk) == TAKHVOI_DONE, "no chunk is made");
+    want(takhvoi_unlock(k, told) == TAKHVOI_DONE && takhvoi_mfree(k, told) == TAKHVOI_DONE, "no block of memory is freed");
 }
 
 static uint32_t make(takhvoi_file *file, uint16_t *block) {
@@ -137,6 +152,7 @@ static void commit_by_kernel(const char *path, uint16_t block) {
     open_file(&file, path);
     want(put(&file, block, 'c') == TAKHVOI_DONE && takhvoi_save(&file.kernel) == TAKHVOI_DONE, "the kernel does not commit");
     want(takhvoi_save(&file.kernel) == TAKHVOI_PENDING, "it commits again before the host has performed the commit");
+    try_changes(&file, block);
     close_after(&file, path, block, 'c', before);
 }
 
@@ -152,8 +168,9 @@ static void work(const char *path) {
     }
     want(make(&file, &block) == TAKHVOI_DONE && put(&file, block, 'a') == TAKHVOI_DONE, "the block is not made");
     uint32_t first = save(&file);
-    want(put(&file, block, 'b') == TAKHVOI_DONE, "the block does not change");
-    if (first == TAKHVOI_DONE || chosen % 2 == 0) {
+    int is_performed = first == TAKHVOI_DONE || chosen % 2 == 0;
+    want(put(&file, block, 'b') == (is_performed ? TAKHVOI_DONE : TAKHVOI_PENDING), "another answer to a change");
+    if (is_performed) {
         uint32_t second = save(&file);
         close_after(&file, path, block, 'b', second == TAKHVOI_DONE ? 'b' : 'a');
     } else {

@@ -1,10 +1,12 @@
 -- What calls answer to C.
-use Rattle.std.specs.Prelude.{◌≡◌, ◌<◌, ◌≤◌, ℕ, Bool, if◌then◌else◌, List, Result, Ok, Err, IfOk}
+use Rattle.std.specs.Prelude.{◌≡◌, ◌<◌, ◌≤◌, ℕ, Bool, if◌then◌else◌, List, [], Result, Ok, Err, IfOk}
+use Rattle.geos_terms.specs.declared.name.Name.{Name}
+use Rattle.geos_terms.specs.declared.name.Owner.TheVariants.{Vm}
 use Rattle.geos_terms.specs.declared.refusal.Refusal.{Refusal}
 use Rattle.geos_terms.specs.Refusals.{refusal_number}
 use Rattle.geos_calls.specs.Effects.{Call}
 use Rattle.geos_kernel.specs.Kernel.{Calls}
-use Rattle.host_device.specs.Journal.{GoesOn, MayHaveLeft, MayLeave, bytes_of}
+use Rattle.host_device.specs.Journal.{GoesOn, MayHaveLeft, MayLeave, bytes_of, journal_of}
 use Rattle.takhvoi.specs.declared.system.System.{System}
 use Rattle.takhvoi.specs.declared.handle.Handle.{Handle}
 
@@ -64,6 +66,14 @@ Looks fact status old new = (status ≡ 0) × (new.kernel ≡ old.kernel) × fac
 abbrev pub Done : (ℕ → System → Type 0) → (ℕ → System → System → Type 0) → ℕ → System → System → Type 0
 Done own came status old new = (new.images.items ≡ old.images.items) × (new.hosted ≡ old.hosted) × (status < 100 → came status old new)
     × (100 ≤ status → (new.kernel ≡ old.kernel) × own status old)
+
+-- the call came to this, and before it nothing was noted that the host had not performed: so begins each change of the VM file
+abbrev pub Changes : (ℕ → System → System → Type 0) → ℕ → System → System → Type 0
+Changes came status old new = (journal_of old.kernel.device ≡ []) × came status old new
+
+-- the same of a change of a block, if that is one of the VM file
+abbrev pub ChangesIn : Name → (ℕ → System → System → Type 0) → ℕ → System → System → Type 0
+ChangesIn name came status old new = (name.owner ≡ Vm → journal_of old.kernel.device ≡ []) × came status old new
 
 -- a call on a handle: where that holds nothing, the answer is 100, and it holds nothing then; else it holds what this leads to
 abbrev pub On : (System → System → Type 0) → ℕ → Handle → Handle → Type 0

@@ -8,7 +8,7 @@ use Rattle.geos_kernel.specs.View.{KernelState}
 use Rattle.geos_terms.specs.declared.name.Name.{Name}
 use Rattle.takhvoi.specs.declared.system.System.{System}
 use Rattle.takhvoi.specs.declared.handle.Handle.{Handle}
-use Rattle.takhvoi.specs.Answers.{IsStatus, ReadsDevice, Served}
+use Rattle.takhvoi.specs.Answers.{ChangesIn, IsStatus, ReadsDevice, Served}
 use Rattle.takhvoi.specs.Own.{MayNotRead, MayNotWrite}
 
 -- the kernel answered with a reference as the call's row says, of n bytes, and read the device at most; the number is that of its reply
@@ -51,4 +51,4 @@ ServesRead name row at n bytes = Served (MayNotRead name at n) (IsCopied (row (a
 
 -- the same of bytes that were stored
 abbrev pub ServesWrite : Name → (ℕ → Call Reference) → ℕ → List ℕ → ℕ → Handle → Handle → Type 0
-ServesWrite name row at bytes = Served (MayNotWrite name at (length bytes)) (IsWritten (row (at + length bytes)) at bytes)
+ServesWrite name row at bytes = Served (MayNotWrite name at (length bytes)) (ChangesIn name (IsWritten (row (at + length bytes)) at bytes))

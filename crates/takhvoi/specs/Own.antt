@@ -9,6 +9,8 @@ use Rattle.vm_blocks.specs.Listed.{NoneLocked}
 use Rattle.vm_blocks.specs.View.{held_at}
 use Rattle.host_device.specs.Journal.{journal_of}
 use Rattle.takhvoi.specs.declared.system.System.{System}
+use Rattle.takhvoi.specs.declared.handle.Handle.{Handle}
+use Rattle.takhvoi.specs.Answers.{ChangesIn, Served}
 
 -- none of these numbers comes
 abbrev pub NoOwn : ℕ → System → Type 0
@@ -22,10 +24,6 @@ NotLocked name status s = (status ≡ 101) × (locks_of s.kernel.core.blocks (sl
 abbrev pub NotMarked : Name → ℕ → System → Type 0
 NotMarked name status s = (status ≡ 102) × (name.owner ≡ Vm) × (is_marked_in (held_at s.kernel.core.vm name.h) ≡ false)
 
--- 101 or 102: the bytes of the block may not be changed
-abbrev pub MayNotChange : Name → ℕ → System → Type 0
-MayNotChange name status s = NotLocked name status s ⊎ NotMarked name status s
-
 -- 103: a block of the VM file is locked
 abbrev pub FileLocked : ℕ → System → Type 0
 FileLocked status s = (status ≡ 103) × (NoneLocked s.kernel.core.blocks → ⊥)
@@ -38,6 +36,18 @@ PastChunk at n status = (status ≡ 105) × (65535 < at + n)
 abbrev pub IsPending : ℕ → System → Type 0
 IsPending status s = (status ≡ 106) × (journal_of s.kernel.device ≡ [] → ⊥)
 
+-- 106: the block is one of the VM file, and something is noted that the host has not performed
+abbrev pub IsPendingIn : Name → ℕ → System → Type 0
+IsPendingIn name status s = (name.owner ≡ Vm) × IsPending status s
+
+-- 101 or 106: the block may not be marked
+abbrev pub MayNotMark : Name → ℕ → System → Type 0
+MayNotMark name status s = NotLocked name status s ⊎ IsPending status s
+
+-- 101, 102 or 106: the chunks of the block may not be changed
+abbrev pub MayNotChange : Name → ℕ → System → Type 0
+MayNotChange name status s = NotLocked name status s ⊎ (NotMarked name status s ⊎ IsPendingIn name status s)
+
 -- 103 or 106: a commit may not begin
 abbrev pub MayNotCommit : ℕ → System → Type 0
 MayNotCommit status s = FileLocked status s ⊎ IsPending status s
@@ -46,6 +56,10 @@ MayNotCommit status s = FileLocked status s ⊎ IsPending status s
 abbrev pub MayNotRead : Name → ℕ → ℕ → ℕ → System → Type 0
 MayNotRead name at n status s = NotLocked name status s ⊎ PastChunk at n status
 
--- 101, 102 or 105: these bytes of the block may not be written
+-- 101, 102, 105 or 106: these bytes of the block may not be written
 abbrev pub MayNotWrite : Name → ℕ → ℕ → ℕ → System → Type 0
 MayNotWrite name at n status s = MayNotChange name status s ⊎ PastChunk at n status
+
+-- a call on the kernel of a handle that changes chunks of a block
+abbrev pub ServesChange : Name → (ℕ → System → System → Type 0) → ℕ → Handle → Handle → Type 0
+ServesChange name came = Served (MayNotChange name) (ChangesIn name came)

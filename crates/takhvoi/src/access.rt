@@ -4,15 +4,15 @@ ghost use Rattle.std.specs.Prelude.{◌≡◌, ◌≢◌, ◌+◌, ◌<◌, ◌�
 ghost use Rattle.geos_calls.specs.ArrayCalls as arrays;
 ghost use Rattle.geos_calls.specs.Calls as table;
 ghost use Rattle.geos_calls.specs.ChunkCalls.{least, refer_row};
-ghost use Rattle.takhvoi.specs.Answers.{Done, On, Served};
+ghost use Rattle.takhvoi.specs.Answers.{ChangesIn, Done, On, Served};
 ghost use Rattle.takhvoi.specs.Bytes.{IsCopied, IsMeasured, IsWritten, ServesRead, ServesWrite};
 ghost use Rattle.takhvoi.specs.Names.{name_of};
 ghost use Rattle.takhvoi.specs.Own.{MayNotRead, MayNotWrite, NotLocked};
 
-use crate::chunks::may_change;
+use crate::chunks::{is_settled, may_change};
 use crate::handle::Handle;
 use crate::held::{put, take};
-use crate::status::{BAD_SIZE, DONE, NO_KERNEL, NOT_LOCKED, NOT_MARKED, name_of, number};
+use crate::status::{BAD_SIZE, DONE, NO_KERNEL, NOT_LOCKED, NOT_MARKED, PENDING, name_of, number};
 use crate::system::System;
 use geos_calls::Refer;
 use geos_kernel::Name;
@@ -68,13 +68,16 @@ fn read(
 
 fn write_in(system: &mut System, name: Name, refer: Refer, at: u16, from: &[u8]) -> u32
     requires { at + length from.now ≤ least refer }
-    ensures { Done (MayNotWrite name at (length from.now)) (IsWritten (refer_row name refer) at from.now) result system.old system.new }
+    ensures { Done (MayNotWrite name at (length from.now)) (ChangesIn name (IsWritten (refer_row name refer) at from.now)) result system.old system.new }
 {
     if system.kernel.locks(name) == 0 {
         return NOT_LOCKED;
     }
     if !may_change(system, name) {
         return NOT_MARKED;
+    }
+    if !is_settled(system, name) {
+        return PENDING;
     }
     match system.kernel.refer(name, refer) {
         Ok(span) => {
@@ -88,7 +91,8 @@ fn write_in(system: &mut System, name: Name, refer: Refer, at: u16, from: &[u8])
 /// Stores bytes into what the value refers to, from an offset on.
 fn write(alloc: Global, handle: &mut Handle, block: u32, refer: Refer, at: u16, from: &[u8]) -> u32
     requires { at + length from.now ≤ least refer }
-    ensures { Served (MayNotWrite (name_of block) at (length from.now)) (IsWritten (refer_row (name_of block) refer) at from.now) result handle.old handle.new }
+    ensures { Served (MayNotWrite (name_of block) at (length from.now)) (ChangesIn (name_of block) (IsWritten (refer_row (name_of block) refer) at from.now))
+        result handle.old handle.new }
 {
     let Some(mut system) = take(alloc, handle) else {
         return NO_KERNEL;

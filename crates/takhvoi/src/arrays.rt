@@ -5,7 +5,7 @@ ghost use Rattle.geos_calls.specs.ArrayCalls as table;
 ghost use Rattle.geos_terms.specs.ArrayEdits.{append_element, create_array, insert_element, resize_element};
 ghost use Rattle.takhvoi.specs.Answers.{IsAnswer, IsTold, Served};
 ghost use Rattle.takhvoi.specs.Names.{name_of};
-ghost use Rattle.takhvoi.specs.Own.{MayNotChange, NotLocked};
+ghost use Rattle.takhvoi.specs.Own.{NotLocked, ServesChange};
 ghost use Rattle.takhvoi.specs.Room.{EditHasNoRoom};
 
 use crate::chunks::{ask, change, make};
@@ -22,7 +22,7 @@ pub extern "C" fn takhvoi_canew(
     element_size: u16,
     told: &mut u16,
 ) -> u32
-    ensures served { Served (MayNotChange (name_of block)) (IsTold (table.canew (name_of block) element_size) told.new) result handle.old handle.new }
+    ensures served { ServesChange (name_of block) (IsTold (table.canew (name_of block) element_size) told.new) result handle.old handle.new }
     ensures no_room { result ≡ 4 → EditHasNoRoom (create_array element_size) (name_of block) handle.old.value handle.new.value }
 {
     make(alloc, handle, block, Make::Canew { element_size }, told)
@@ -37,7 +37,7 @@ pub extern "C" fn takhvoi_caadd(
     chunk: u16,
     len: u16,
 ) -> u32
-    ensures served { Served (MayNotChange (name_of block)) (IsAnswer (table.caadd (name_of block) chunk len)) result handle.old handle.new }
+    ensures served { ServesChange (name_of block) (IsAnswer (table.caadd (name_of block) chunk len)) result handle.old handle.new }
     ensures no_room { result ≡ 4 → EditHasNoRoom (append_element chunk len) (name_of block) handle.old.value handle.new.value }
 {
     change(alloc, handle, block, Change::Caadd { c: chunk, n: len })
@@ -53,7 +53,7 @@ pub extern "C" fn takhvoi_cains(
     index: u16,
     len: u16,
 ) -> u32
-    ensures served { Served (MayNotChange (name_of block)) (IsAnswer (table.cains (name_of block) chunk index len)) result handle.old handle.new }
+    ensures served { ServesChange (name_of block) (IsAnswer (table.cains (name_of block) chunk index len)) result handle.old handle.new }
     ensures no_room { result ≡ 4 → EditHasNoRoom (insert_element chunk index len) (name_of block) handle.old.value handle.new.value }
 {
     change(
@@ -77,7 +77,7 @@ pub extern "C" fn takhvoi_cadel(
     chunk: u16,
     index: u16,
 ) -> u32
-    ensures { Served (MayNotChange (name_of block)) (IsAnswer (table.cadel (name_of block) chunk index)) result handle.old handle.new }
+    ensures { ServesChange (name_of block) (IsAnswer (table.cadel (name_of block) chunk index)) result handle.old handle.new }
 {
     change(alloc, handle, block, Change::Cadel { c: chunk, i: index })
 }
@@ -85,7 +85,7 @@ pub extern "C" fn takhvoi_cadel(
 /// Takes all elements out.
 #[unsafe(no_mangle)]
 pub extern "C" fn takhvoi_cazero(alloc: Global, handle: &mut Handle, block: u32, chunk: u16) -> u32
-    ensures { Served (MayNotChange (name_of block)) (IsAnswer (table.cazero (name_of block) chunk)) result handle.old handle.new }
+    ensures { ServesChange (name_of block) (IsAnswer (table.cazero (name_of block) chunk)) result handle.old handle.new }
 {
     change(alloc, handle, block, Change::Cazero { c: chunk })
 }
@@ -100,7 +100,7 @@ pub extern "C" fn takhvoi_caresize(
     index: u16,
     len: u16,
 ) -> u32
-    ensures served { Served (MayNotChange (name_of block)) (IsAnswer (table.caresize (name_of block) chunk index len)) result handle.old handle.new }
+    ensures served { ServesChange (name_of block) (IsAnswer (table.caresize (name_of block) chunk index len)) result handle.old handle.new }
     ensures no_room { result ≡ 4 → EditHasNoRoom (resize_element chunk index len) (name_of block) handle.old.value handle.new.value }
 {
     change(

@@ -1,6 +1,6 @@
 //! Calls on the chunks of a locked block.
 
-ghost use Rattle.std.specs.Prelude.{◌≡◌, false, IsFalse, IsTrue};
+ghost use Rattle.std.specs.Prelude.{◌≡◌, [], false, IsFalse, IsTrue};
 ghost use Rattle.block_handles.specs.Names.{slot_of};
 ghost use Rattle.block_handles.specs.Store.{bytes_of};
 ghost use Rattle.geos_terms.specs.Edits.{alloc as allocate, insert_bytes, realloc};
@@ -11,14 +11,16 @@ ghost use Rattle.vm_blocks.specs.View.{held_at};
 ghost use Rattle.geos_calls.specs.Calls as table;
 ghost use Rattle.geos_calls.specs.ChunkCalls.{ask_row, change_edit, change_row, make_edit, make_row};
 ghost use Rattle.geos_kernel.specs.View.{MayChange};
-ghost use Rattle.takhvoi.specs.Answers.{Done, IsAnswer, IsTold, Served};
+ghost use Rattle.host_device.specs.Journal.{journal_of};
+ghost use Rattle.takhvoi.specs.Answers.{ChangesIn, Done, IsAnswer, IsTold, Served};
 ghost use Rattle.takhvoi.specs.Names.{name_of};
-ghost use Rattle.takhvoi.specs.Own.{MayNotChange, NotLocked};
+ghost use Rattle.takhvoi.specs.Own.{MayNotChange, NotLocked, ServesChange};
 ghost use Rattle.takhvoi.specs.Room.{EditHasNoRoom};
 
 use crate::handle::Handle;
 use crate::held::{put, take};
-use crate::status::{NO_KERNEL, NOT_LOCKED, NOT_MARKED, end, name_of, tell};
+use crate::journal::is_performed;
+use crate::status::{NO_KERNEL, NOT_LOCKED, NOT_MARKED, PENDING, end, name_of, tell};
 use crate::system::System;
 use geos_calls::{Ask, Change, Make};
 use geos_kernel::{Name, Owner};
@@ -35,8 +37,19 @@ pub(crate) fn may_change(system: &System, name: Name) -> bool
     }
 }
 
+/// Whether the host has performed all that is noted, or the block is none of the VM file.
+pub(crate) fn is_settled(system: &System, name: Name) -> bool
+    ensures yes { IsTrue result → name.owner ≡ owner.Vm → journal_of system.now.kernel.device ≡ [] }
+    ensures no { IsFalse result → (name.owner ≡ owner.Vm) × (journal_of system.now.kernel.device ≡ [] → ⊥) }
+{
+    match name.owner {
+        Owner::Mem => true,
+        Owner::Vm => is_performed(&system.kernel),
+    }
+}
+
 fn change_in(system: &mut System, name: Name, change: Change) -> u32
-    ensures done { Done (MayNotChange name) (IsAnswer (change_row name change)) result system.old system.new }
+    ensures done { Done (MayNotChange name) (ChangesIn name (IsAnswer (change_row name change))) result system.old system.new }
     ensures compact { change ≡ Change.Lcontract → result ≡ 0 → IsCompact (bytes_of system.new.kernel.core.blocks (slot_of name)) }
     ensures no_room { result ≡ 4 → EditHasNoRoom (change_edit change) name system.old system.new }
 {
@@ -46,12 +59,15 @@ fn change_in(system: &mut System, name: Name, change: Change) -> u32
     if !may_change(system, name) {
         return NOT_MARKED;
     }
+    if !is_settled(system, name) {
+        return PENDING;
+    }
     end(system.kernel.change(name, change))
 }
 
 /// Changes the chunks of a block, as the value says.
 pub(crate) fn change(alloc: Global, handle: &mut Handle, block: u32, change: Change) -> u32
-    ensures served { Served (MayNotChange (name_of block)) (IsAnswer (change_row (name_of block) change)) result handle.old handle.new }
+    ensures served { ServesChange (name_of block) (IsAnswer (change_row (name_of block) change)) result handle.old handle.new }
     ensures compact { change ≡ Change.Lcontract → result ≡ 0 → IsCompact (bytes_of handle.new.value.kernel.core.blocks (slot_of (name_of block))) }
     ensures no_room { result ≡ 4 → EditHasNoRoom (change_edit change) (name_of block) handle.old.value handle.new.value }
 {
@@ -64,7 +80,7 @@ pub(crate) fn change(alloc: Global, handle: &mut Handle, block: u32, change: Cha
 }
 
 fn make_in(system: &mut System, name: Name, make: Make, told: &mut u16) -> u32
-    ensures done { Done (MayNotChange name) (IsTold (make_row name make) told.new) result system.old system.new }
+    ensures done { Done (MayNotChange name) (ChangesIn name (IsTold (make_row name make) told.new)) result system.old system.new }
     ensures no_room { result ≡ 4 → EditHasNoRoom (make_edit make) name system.old system.new }
 {
     if system.kernel.locks(name) == 0 {
@@ -72,6 +88,9 @@ fn make_in(system: &mut System, name: Name, make: Make, told: &mut u16) -> u32
     }
     if !may_change(system, name) {
         return NOT_MARKED;
+    }
+    if !is_settled(system, name) {
+        return PENDING;
     }
     tell(system.kernel.make_chunk(name, make), told)
 }
@@ -84,7 +103,7 @@ pub(crate) fn make(
     make: Make,
     told: &mut u16,
 ) -> u32
-    ensures served { Served (MayNotChange (name_of block)) (IsTold (make_row (name_of block) make) told.new) result handle.old handle.new }
+    ensures served { ServesChange (name_of block) (IsTold (make_row (name_of block) make) told.new) result handle.old handle.new }
     ensures no_room { result ≡ 4 → EditHasNoRoom (make_edit make) (name_of block) handle.old.value handle.new.value }
 {
     let Some(mut system) = take(alloc, handle) else {
@@ -125,7 +144,7 @@ pub extern "C" fn takhvoi_lalloc(
     len: u16,
     told: &mut u16,
 ) -> u32
-    ensures served { Served (MayNotChange (name_of block)) (IsTold (table.lalloc (name_of block) len) told.new) result handle.old handle.new }
+    ensures served { ServesChange (name_of block) (IsTold (table.lalloc (name_of block) len) told.new) result handle.old handle.new }
     ensures no_room { result ≡ 4 → EditHasNoRoom (allocate len) (name_of block) handle.old.value handle.new.value }
 {
     make(alloc, handle, block, Make::Lalloc { n: len }, told)
@@ -134,7 +153,7 @@ pub extern "C" fn takhvoi_lalloc(
 /// Frees a chunk.
 #[unsafe(no_mangle)]
 pub extern "C" fn takhvoi_lfree(alloc: Global, handle: &mut Handle, block: u32, chunk: u16) -> u32
-    ensures { Served (MayNotChange (name_of block)) (IsAnswer (table.lfree (name_of block) chunk)) result handle.old handle.new }
+    ensures { ServesChange (name_of block) (IsAnswer (table.lfree (name_of block) chunk)) result handle.old handle.new }
 {
     change(alloc, handle, block, Change::Lfree { c: chunk })
 }
@@ -148,7 +167,7 @@ pub extern "C" fn takhvoi_lrealloc(
     chunk: u16,
     len: u16,
 ) -> u32
-    ensures served { Served (MayNotChange (name_of block)) (IsAnswer (table.lrealloc (name_of block) chunk len)) result handle.old handle.new }
+    ensures served { ServesChange (name_of block) (IsAnswer (table.lrealloc (name_of block) chunk len)) result handle.old handle.new }
     ensures no_room { result ≡ 4 → EditHasNoRoom (realloc chunk len) (name_of block) handle.old.value handle.new.value }
 {
     change(alloc, handle, block, Change::Lrealloc { c: chunk, n: len })
@@ -164,7 +183,7 @@ pub extern "C" fn takhvoi_lins(
     at: u16,
     len: u16,
 ) -> u32
-    ensures served { Served (MayNotChange (name_of block)) (IsAnswer (table.lins (name_of block) chunk at len)) result handle.old handle.new }
+    ensures served { ServesChange (name_of block) (IsAnswer (table.lins (name_of block) chunk at len)) result handle.old handle.new }
     ensures no_room { result ≡ 4 → EditHasNoRoom (insert_bytes chunk at len) (name_of block) handle.old.value handle.new.value }
 {
     change(
@@ -189,7 +208,7 @@ pub extern "C" fn takhvoi_ldel(
     at: u16,
     len: u16,
 ) -> u32
-    ensures { Served (MayNotChange (name_of block)) (IsAnswer (table.ldel (name_of block) chunk at len)) result handle.old handle.new }
+    ensures { ServesChange (name_of block) (IsAnswer (table.ldel (name_of block) chunk at len)) result handle.old handle.new }
 {
     change(
         alloc,
@@ -206,7 +225,7 @@ pub extern "C" fn takhvoi_ldel(
 /// Moves the chunks of a block together, so that its free bytes are in one piece.
 #[unsafe(no_mangle)]
 pub extern "C" fn takhvoi_lcontract(alloc: Global, handle: &mut Handle, block: u32) -> u32
-    ensures served { Served (MayNotChange (name_of block)) (IsAnswer (table.lcontract (name_of block))) result handle.old handle.new }
+    ensures served { ServesChange (name_of block) (IsAnswer (table.lcontract (name_of block))) result handle.old handle.new }
     ensures compact { result ≡ 0 → IsCompact (bytes_of handle.new.value.kernel.core.blocks (slot_of (name_of block))) }
 {
     change(alloc, handle, block, Change::Lcontract)

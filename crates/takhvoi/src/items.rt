@@ -6,28 +6,32 @@ ghost use Rattle.geos_terms.specs.Names.{vm};
 ghost use Rattle.geos_calls.specs.ChunkCalls.{change_edit, change_row, make_edit, make_row};
 ghost use Rattle.geos_calls.specs.ItemCalls as table;
 ghost use Rattle.geos_kernel.specs.Kernel.{ItemHasNoRoom, ListedHasNoRoom, NewListedHasNoRoom};
-ghost use Rattle.takhvoi.specs.Answers.{Done, IsAnswer, IsAnswerRead, IsTold, IsToldRead, IsToldTwo, Served};
+ghost use Rattle.takhvoi.specs.Answers.{Changes, Done, IsAnswer, IsAnswerRead, IsTold, IsToldRead, IsToldTwo, Served};
 ghost use Rattle.takhvoi.specs.Bytes.{IsReferred};
-ghost use Rattle.takhvoi.specs.Own.{NoOwn};
+ghost use Rattle.takhvoi.specs.Own.{IsPending, NoOwn};
 
 use crate::handle::Handle;
 use crate::held::{put, take};
-use crate::status::{DONE, NO_KERNEL, end, number, tell};
+use crate::journal::is_performed;
+use crate::status::{DONE, NO_KERNEL, PENDING, end, number, tell};
 use crate::system::System;
 use geos_calls::{Change, Make};
 use std::alloc::Global;
 
 fn gnew(system: &mut System, told: &mut u16) -> u32
-    ensures done { Done NoOwn (IsTold table.gnew told.new) result system.old system.new }
+    ensures done { Done IsPending (Changes (IsTold table.gnew told.new)) result system.old system.new }
     ensures no_room { result ≡ 4 → NewListedHasNoRoom system.old.kernel.core system.new.kernel.core }
 {
+    if !is_performed(&system.kernel) {
+        return PENDING;
+    }
     tell(system.kernel.gnew(), told)
 }
 
 /// Makes a group, marks it, and tells its handle.
 #[unsafe(no_mangle)]
 pub extern "C" fn takhvoi_gnew(alloc: Global, handle: &mut Handle, told: &mut u16) -> u32
-    ensures served { Served NoOwn (IsTold table.gnew told.new) result handle.old handle.new }
+    ensures served { Served IsPending (Changes (IsTold table.gnew told.new)) result handle.old handle.new }
     ensures no_room { result ≡ 4 → NewListedHasNoRoom handle.old.value.kernel.core handle.new.value.kernel.core }
 {
     let Some(mut system) = take(alloc, handle) else {
@@ -39,15 +43,18 @@ pub extern "C" fn takhvoi_gnew(alloc: Global, handle: &mut Handle, told: &mut u1
 }
 
 fn gfree(system: &mut System, group: u16) -> u32
-    ensures { Done NoOwn (IsAnswer (table.gfree group)) result system.old system.new }
+    ensures { Done IsPending (Changes (IsAnswer (table.gfree group))) result system.old system.new }
 {
+    if !is_performed(&system.kernel) {
+        return PENDING;
+    }
     end(system.kernel.gfree(group))
 }
 
 /// Frees a group that is not locked, with its items.
 #[unsafe(no_mangle)]
 pub extern "C" fn takhvoi_gfree(alloc: Global, handle: &mut Handle, group: u16) -> u32
-    ensures { Served NoOwn (IsAnswer (table.gfree group)) result handle.old handle.new }
+    ensures { Served IsPending (Changes (IsAnswer (table.gfree group))) result handle.old handle.new }
 {
     let Some(mut system) = take(alloc, handle) else {
         return NO_KERNEL;
@@ -58,15 +65,18 @@ pub extern "C" fn takhvoi_gfree(alloc: Global, handle: &mut Handle, group: u16) 
 }
 
 fn make_in(system: &mut System, group: u16, make: Make, told: &mut u16) -> u32
-    ensures done { Done NoOwn (IsToldRead (table.on_group group (make_row (vm group) make)) told.new) result system.old system.new }
+    ensures done { Done IsPending (Changes (IsToldRead (table.on_group group (make_row (vm group) make)) told.new)) result system.old system.new }
     ensures no_room { result ≡ 4 → ItemHasNoRoom system.new.kernel.core group (make_edit make) }
 {
+    if !is_performed(&system.kernel) {
+        return PENDING;
+    }
     tell(system.kernel.item_make(group, make), told)
 }
 
 /// Makes an item of a group, as the value says, and tells its handle.
 fn make(alloc: Global, handle: &mut Handle, group: u16, make: Make, told: &mut u16) -> u32
-    ensures served { Served NoOwn (IsToldRead (table.on_group group (make_row (vm group) make)) told.new) result handle.old handle.new }
+    ensures served { Served IsPending (Changes (IsToldRead (table.on_group group (make_row (vm group) make)) told.new)) result handle.old handle.new }
     ensures no_room { result ≡ 4 → ItemHasNoRoom handle.new.value.kernel.core group (make_edit make) }
 {
     let Some(mut system) = take(alloc, handle) else {
@@ -86,22 +96,25 @@ pub extern "C" fn takhvoi_inew(
     len: u16,
     told: &mut u16,
 ) -> u32
-    ensures served { Served NoOwn (IsToldRead (table.inew group len) told.new) result handle.old handle.new }
+    ensures served { Served IsPending (Changes (IsToldRead (table.inew group len) told.new)) result handle.old handle.new }
     ensures no_room { result ≡ 4 → ItemHasNoRoom handle.new.value.kernel.core group (allocate len) }
 {
     make(alloc, handle, group, Make::Lalloc { n: len }, told)
 }
 
 fn change_in(system: &mut System, group: u16, change: Change) -> u32
-    ensures done { Done NoOwn (IsAnswerRead (table.on_group group (change_row (vm group) change))) result system.old system.new }
+    ensures done { Done IsPending (Changes (IsAnswerRead (table.on_group group (change_row (vm group) change)))) result system.old system.new }
     ensures no_room { result ≡ 4 → ItemHasNoRoom system.new.kernel.core group (change_edit change) }
 {
+    if !is_performed(&system.kernel) {
+        return PENDING;
+    }
     end(system.kernel.item_change(group, change))
 }
 
 /// Changes the items of a group, as the value says.
 fn change(alloc: Global, handle: &mut Handle, group: u16, change: Change) -> u32
-    ensures served { Served NoOwn (IsAnswerRead (table.on_group group (change_row (vm group) change))) result handle.old handle.new }
+    ensures served { Served IsPending (Changes (IsAnswerRead (table.on_group group (change_row (vm group) change)))) result handle.old handle.new }
     ensures no_room { result ≡ 4 → ItemHasNoRoom handle.new.value.kernel.core group (change_edit change) }
 {
     let Some(mut system) = take(alloc, handle) else {
@@ -115,7 +128,7 @@ fn change(alloc: Global, handle: &mut Handle, group: u16, change: Change) -> u32
 /// Frees an item.
 #[unsafe(no_mangle)]
 pub extern "C" fn takhvoi_ifree(alloc: Global, handle: &mut Handle, group: u16, item: u16) -> u32
-    ensures served { Served NoOwn (IsAnswerRead (table.ifree group item)) result handle.old handle.new }
+    ensures served { Served IsPending (Changes (IsAnswerRead (table.ifree group item))) result handle.old handle.new }
     ensures no_room { result ≡ 4 → ItemHasNoRoom handle.new.value.kernel.core group (free item) }
 {
     change(alloc, handle, group, Change::Lfree { c: item })
@@ -130,7 +143,7 @@ pub extern "C" fn takhvoi_irealloc(
     item: u16,
     len: u16,
 ) -> u32
-    ensures served { Served NoOwn (IsAnswerRead (table.irealloc group item len)) result handle.old handle.new }
+    ensures served { Served IsPending (Changes (IsAnswerRead (table.irealloc group item len))) result handle.old handle.new }
     ensures no_room { result ≡ 4 → ItemHasNoRoom handle.new.value.kernel.core group (realloc item len) }
 {
     change(alloc, handle, group, Change::Lrealloc { c: item, n: len })
@@ -146,7 +159,7 @@ pub extern "C" fn takhvoi_iins(
     at: u16,
     len: u16,
 ) -> u32
-    ensures served { Served NoOwn (IsAnswerRead (table.iins group item at len)) result handle.old handle.new }
+    ensures served { Served IsPending (Changes (IsAnswerRead (table.iins group item at len))) result handle.old handle.new }
     ensures no_room { result ≡ 4 → ItemHasNoRoom handle.new.value.kernel.core group (insert_bytes item at len) }
 {
     change(
@@ -171,7 +184,7 @@ pub extern "C" fn takhvoi_idel(
     at: u16,
     len: u16,
 ) -> u32
-    ensures served { Served NoOwn (IsAnswerRead (table.idel group item at len)) result handle.old handle.new }
+    ensures served { Served IsPending (Changes (IsAnswerRead (table.idel group item at len))) result handle.old handle.new }
     ensures no_room { result ≡ 4 → ItemHasNoRoom handle.new.value.kernel.core group (delete_bytes item at len) }
 {
     change(
@@ -247,15 +260,18 @@ pub extern "C" fn takhvoi_igetmap(
 }
 
 fn isetmap(system: &mut System, group: u16, item: u16) -> u32
-    ensures { Done NoOwn (IsAnswer (table.isetmap group item)) result system.old system.new }
+    ensures { Done IsPending (Changes (IsAnswer (table.isetmap group item))) result system.old system.new }
 {
+    if !is_performed(&system.kernel) {
+        return PENDING;
+    }
     end(system.kernel.isetmap(group, item))
 }
 
 /// Names the map item; the group 0 and the item 0 for none.
 #[unsafe(no_mangle)]
 pub extern "C" fn takhvoi_isetmap(alloc: Global, handle: &mut Handle, group: u16, item: u16) -> u32
-    ensures { Served NoOwn (IsAnswer (table.isetmap group item)) result handle.old handle.new }
+    ensures { Served IsPending (Changes (IsAnswer (table.isetmap group item))) result handle.old handle.new }
 {
     let Some(mut system) = take(alloc, handle) else {
         return NO_KERNEL;

@@ -4,9 +4,9 @@ ghost use Rattle.std.specs.Prelude.{◌≡◌};
 ghost use Rattle.geos_terms.specs.Names.{vm};
 ghost use Rattle.geos_calls.specs.VmCalls as table;
 ghost use Rattle.geos_kernel.specs.Kernel.{ListedHasNoRoom, NewListedHasNoRoom};
-ghost use Rattle.takhvoi.specs.Answers.{Done, IsAnswer, IsAnswerRead, IsTold, Served};
+ghost use Rattle.takhvoi.specs.Answers.{Changes, Done, IsAnswer, IsAnswerRead, IsTold, Served};
 ghost use Rattle.takhvoi.specs.Journal.{IsCommitted};
-ghost use Rattle.takhvoi.specs.Own.{MayNotCommit, NoOwn, NotLocked};
+ghost use Rattle.takhvoi.specs.Own.{IsPending, MayNotCommit, MayNotMark, NoOwn};
 
 use crate::handle::Handle;
 use crate::held::{put, take};
@@ -18,16 +18,19 @@ use std::alloc::Global;
 use vm_file::How;
 
 fn vnew(system: &mut System, uid: u16, told: &mut u16) -> u32
-    ensures done { Done NoOwn (IsTold (table.vnew uid) told.new) result system.old system.new }
+    ensures done { Done IsPending (Changes (IsTold (table.vnew uid) told.new)) result system.old system.new }
     ensures no_room { result ≡ 4 → NewListedHasNoRoom system.old.kernel.core system.new.kernel.core }
 {
+    if !is_performed(&system.kernel) {
+        return PENDING;
+    }
     tell(system.kernel.vnew(uid), told)
 }
 
 /// Makes a block of the VM file with a user ID, marks it, locks it, and tells its handle.
 #[unsafe(no_mangle)]
 pub extern "C" fn takhvoi_vnew(alloc: Global, handle: &mut Handle, uid: u16, told: &mut u16) -> u32
-    ensures served { Served NoOwn (IsTold (table.vnew uid) told.new) result handle.old handle.new }
+    ensures served { Served IsPending (Changes (IsTold (table.vnew uid) told.new)) result handle.old handle.new }
     ensures no_room { result ≡ 4 → NewListedHasNoRoom handle.old.value.kernel.core handle.new.value.kernel.core }
 {
     let Some(mut system) = take(alloc, handle) else {
@@ -60,11 +63,14 @@ pub extern "C" fn takhvoi_vlock(alloc: Global, handle: &mut Handle, block: u16) 
 }
 
 fn vdirty(system: &mut System, block: u16) -> u32
-    ensures { Done (NotLocked (vm block)) (IsAnswer (table.vdirty block)) result system.old system.new }
+    ensures { Done (MayNotMark (vm block)) (Changes (IsAnswer (table.vdirty block))) result system.old system.new }
 {
     let name = Name::vm(block);
     if system.kernel.locks(name) == 0 {
         return NOT_LOCKED;
+    }
+    if !is_performed(&system.kernel) {
+        return PENDING;
     }
     system.kernel.vdirty(name);
     DONE
@@ -73,7 +79,7 @@ fn vdirty(system: &mut System, block: u16) -> u32
 /// Marks a block of the VM file, or a group, that is locked: a commit will write it.
 #[unsafe(no_mangle)]
 pub extern "C" fn takhvoi_vdirty(alloc: Global, handle: &mut Handle, block: u16) -> u32
-    ensures { Served (NotLocked (vm block)) (IsAnswer (table.vdirty block)) result handle.old handle.new }
+    ensures { Served (MayNotMark (vm block)) (Changes (IsAnswer (table.vdirty block))) result handle.old handle.new }
 {
     let Some(mut system) = take(alloc, handle) else {
         return NO_KERNEL;
@@ -84,15 +90,18 @@ pub extern "C" fn takhvoi_vdirty(alloc: Global, handle: &mut Handle, block: u16)
 }
 
 fn vfree(system: &mut System, block: u16) -> u32
-    ensures { Done NoOwn (IsAnswer (table.vfree block)) result system.old system.new }
+    ensures { Done IsPending (Changes (IsAnswer (table.vfree block))) result system.old system.new }
 {
+    if !is_performed(&system.kernel) {
+        return PENDING;
+    }
     end(system.kernel.vfree(block))
 }
 
 /// Frees a block of the VM file that is not locked.
 #[unsafe(no_mangle)]
 pub extern "C" fn takhvoi_vfree(alloc: Global, handle: &mut Handle, block: u16) -> u32
-    ensures { Served NoOwn (IsAnswer (table.vfree block)) result handle.old handle.new }
+    ensures { Served IsPending (Changes (IsAnswer (table.vfree block))) result handle.old handle.new }
 {
     let Some(mut system) = take(alloc, handle) else {
         return NO_KERNEL;
@@ -172,15 +181,18 @@ pub extern "C" fn takhvoi_vgetmap(alloc: Global, handle: &mut Handle, told: &mut
 }
 
 fn vsetmap(system: &mut System, block: u16) -> u32
-    ensures { Done NoOwn (IsAnswer (table.vsetmap block)) result system.old system.new }
+    ensures { Done IsPending (Changes (IsAnswer (table.vsetmap block))) result system.old system.new }
 {
+    if !is_performed(&system.kernel) {
+        return PENDING;
+    }
     end(system.kernel.vsetmap(block))
 }
 
 /// Names the map block; 0 for none.
 #[unsafe(no_mangle)]
 pub extern "C" fn takhvoi_vsetmap(alloc: Global, handle: &mut Handle, block: u16) -> u32
-    ensures { Served NoOwn (IsAnswer (table.vsetmap block)) result handle.old handle.new }
+    ensures { Served IsPending (Changes (IsAnswer (table.vsetmap block))) result handle.old handle.new }
 {
     let Some(mut system) = take(alloc, handle) else {
         return NO_KERNEL;

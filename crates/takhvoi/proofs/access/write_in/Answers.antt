@@ -16,7 +16,10 @@ returns-in-Ok c =
     gives.2 c.store.ensures.row in (
       refl,
       refl,
-      (λ _. (gives.0, gives.1, told.0, given-no-refusal s c.in-Ok.span gives.0 _ gives.2, c.store.ensures.vm.device, told.1)),
+      (λ _. (
+        c.if-not-is_settled.ensures.yes refl,
+        (gives.0, gives.1, told.0, given-no-refusal s c.in-Ok.span gives.0 _ gives.2, c.store.ensures.vm.device, told.1),
+      )),
       λ past. absurd (past-none past),
     )
   where
