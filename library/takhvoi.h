@@ -38,9 +38,18 @@ typedef struct takhvoi_kernel {
 } takhvoi_kernel;
 #define TAKHVOI_NONE { 0, 0 }
 
-/* A block: the handle of a block of memory, or TAKHVOI_VM of that of a block or group of the VM file. */
-typedef uint32_t takhvoi_block;
-#define TAKHVOI_VM(handle) (65536u + (uint16_t)(handle))
+/* A block of either owner: TAKHVOI_MEM of the handle of a block of memory, or TAKHVOI_VM of that of a block or group of the VM file. It is a
+ * struct, so that a compiler refuses a bare handle in its place, and a block in the place of a handle. */
+typedef struct takhvoi_block {
+    uint32_t number;
+} takhvoi_block;
+static inline takhvoi_block takhvoi_numbered(uint32_t number) {
+    takhvoi_block block;
+    block.number = number;
+    return block;
+}
+#define TAKHVOI_MEM(handle) takhvoi_numbered((uint16_t)(handle))
+#define TAKHVOI_VM(handle) takhvoi_numbered(65536u + (uint16_t)(handle))
 
 enum {
     TAKHVOI_DONE = 0,

@@ -26,17 +26,17 @@ namespace takhvoi {
 class Name {
 public:
     static constexpr Name of_memory(std::uint16_t handle) noexcept { return Name(handle); }
-    static constexpr Name of_file(std::uint16_t handle) noexcept { return Name(TAKHVOI_VM(handle)); }
+    static constexpr Name of_file(std::uint16_t handle) noexcept { return Name(0x10000u + handle); }
 
-    constexpr std::uint16_t handle() const noexcept { return static_cast<std::uint16_t>(block_); }
-    constexpr bool is_of_file() const noexcept { return block_ > 0xffff; }
-    constexpr takhvoi_block block() const noexcept { return block_; }
-    friend constexpr bool operator==(Name a, Name b) noexcept { return a.block_ == b.block_; }
-    friend constexpr bool operator!=(Name a, Name b) noexcept { return a.block_ != b.block_; }
+    constexpr std::uint16_t handle() const noexcept { return static_cast<std::uint16_t>(number_); }
+    constexpr bool is_of_file() const noexcept { return number_ > 0xffff; }
+    constexpr takhvoi_block block() const noexcept { return takhvoi_block{number_}; }
+    friend constexpr bool operator==(Name a, Name b) noexcept { return a.number_ == b.number_; }
+    friend constexpr bool operator!=(Name a, Name b) noexcept { return a.number_ != b.number_; }
 
 private:
-    constexpr explicit Name(takhvoi_block block) noexcept : block_(block) {}
-    takhvoi_block block_;
+    constexpr explicit Name(std::uint32_t number) noexcept : number_(number) {}
+    std::uint32_t number_;
 };
 
 namespace detail {

@@ -23,18 +23,20 @@ static void try_texts(void) {
 
 static void try_chunks(takhvoi_kernel *kernel) {
     uint16_t handle = 0, chunk = 0;
+    takhvoi_block block;
     uint8_t byte = 1;
     REFUSED(takhvoi_mnew(NULL, &handle));
     REFUSED(takhvoi_mnew(kernel, NULL));
     WANT(TAKHVOI_DONE, takhvoi_mnew(kernel, &handle));
-    WANT(TAKHVOI_DONE, takhvoi_lalloc(kernel, handle, 4, &chunk));
-    REFUSED(takhvoi_write(kernel, handle, chunk, 0, NULL, 1));
-    WANT(TAKHVOI_DONE, takhvoi_write(kernel, handle, chunk, 0, NULL, 0));
-    WANT(TAKHVOI_DONE, takhvoi_read(kernel, handle, chunk, 0, NULL, 0));
-    REFUSED(takhvoi_read(kernel, handle, chunk, 0, NULL, 4));
-    REFUSED(takhvoi_read(NULL, handle, chunk, 0, &byte, 1));
+    block = TAKHVOI_MEM(handle);
+    WANT(TAKHVOI_DONE, takhvoi_lalloc(kernel, block, 4, &chunk));
+    REFUSED(takhvoi_write(kernel, block, chunk, 0, NULL, 1));
+    WANT(TAKHVOI_DONE, takhvoi_write(kernel, block, chunk, 0, NULL, 0));
+    WANT(TAKHVOI_DONE, takhvoi_read(kernel, block, chunk, 0, NULL, 0));
+    REFUSED(takhvoi_read(kernel, block, chunk, 0, NULL, 4));
+    REFUSED(takhvoi_read(NULL, block, chunk, 0, &byte, 1));
     WANT(1, byte);
-    WANT(TAKHVOI_DONE, takhvoi_unlock(kernel, handle));
+    WANT(TAKHVOI_DONE, takhvoi_unlock(kernel, block));
 }
 
 static void try_runs(takhvoi_kernel *kernel) {

@@ -66,9 +66,9 @@ typedef struct target {
 
 static target any(void) {
     static block none;
-    target it = {(int)below(2), (uint16_t)below(BLOCKS + 2), &none, 0};
+    target it = {(int)below(2), (uint16_t)below(BLOCKS + 2), &none, TAKHVOI_MEM(0)};
     if (it.handle <= BLOCKS) it.block = &(it.of_file ? &file : &memory)->at[it.handle];
-    it.name = it.of_file ? TAKHVOI_VM(it.handle) : it.handle;
+    it.name = it.of_file ? TAKHVOI_VM(it.handle) : TAKHVOI_MEM(it.handle);
     return it;
 }
 
@@ -227,7 +227,7 @@ static void compare_block(takhvoi_block name, const block *it) {
 static void compare(int of_file) {
     for (uint16_t h = 0; h <= BLOCKS; h++) {
         block *it = &(of_file ? &file : &memory)->at[h];
-        target here = {of_file, h, it, of_file ? TAKHVOI_VM(h) : h};
+        target here = {of_file, h, it, of_file ? TAKHVOI_VM(h) : TAKHVOI_MEM(h)};
         uint16_t locks = 0, marked = 0;
         is_done("locks", takhvoi_locks(&on.kernel, here.name, &locks), TAKHVOI_DONE, 0);
         want("count of locks", locks == it->locks);

@@ -89,8 +89,8 @@ static void try_changes(takhvoi_file *file, uint16_t block) {
     want(takhvoi_vsetmap(k, block) == TAKHVOI_PENDING && takhvoi_isetmap(k, 0, 0) == TAKHVOI_PENDING, "the map changes");
     want(takhvoi_inew(k, 1, 1, &told) == TAKHVOI_PENDING && takhvoi_ifree(k, 1, 16) == TAKHVOI_PENDING, "an item changes");
     want(takhvoi_mnew(k, &told) == TAKHVOI_DONE, "no block of memory is made");
-    want(takhvoi_lalloc(k, told, 8, &chunk) == TAKHVOI_DONE, "no chunk is made");
-    want(takhvoi_unlock(k, told) == TAKHVOI_DONE && takhvoi_mfree(k, told) == TAKHVOI_DONE, "no block of memory is freed");
+    want(takhvoi_lalloc(k, TAKHVOI_MEM(told), 8, &chunk) == TAKHVOI_DONE, "no chunk is made");
+    want(takhvoi_unlock(k, TAKHVOI_MEM(told)) == TAKHVOI_DONE && takhvoi_mfree(k, told) == TAKHVOI_DONE, "no block of memory is freed");
 }
 
 static uint32_t make(takhvoi_file *file, uint16_t *block) {

@@ -16,20 +16,20 @@ static void must(uint32_t status) {
 
 static void lock(void) {
     must(takhvoi_mlock(&kernel, block));
-    must(takhvoi_unlock(&kernel, block));
+    must(takhvoi_unlock(&kernel, TAKHVOI_MEM(block)));
 }
 static void lock_of_file(void) {
     must(takhvoi_vlock(&kernel, of_file));
     must(takhvoi_unlock(&kernel, TAKHVOI_VM(of_file)));
 }
-static void read_16(void) { must(takhvoi_read(&kernel, block, record, 0, bytes, 16)); }
-static void write_16(void) { must(takhvoi_write(&kernel, block, record, 0, bytes, 16)); }
-static void read_4096(void) { must(takhvoi_read(&kernel, block, large, 0, bytes, LARGE)); }
-static void write_4096(void) { must(takhvoi_write(&kernel, block, large, 0, bytes, LARGE)); }
+static void read_16(void) { must(takhvoi_read(&kernel, TAKHVOI_MEM(block), record, 0, bytes, 16)); }
+static void write_16(void) { must(takhvoi_write(&kernel, TAKHVOI_MEM(block), record, 0, bytes, 16)); }
+static void read_4096(void) { must(takhvoi_read(&kernel, TAKHVOI_MEM(block), large, 0, bytes, LARGE)); }
+static void write_4096(void) { must(takhvoi_write(&kernel, TAKHVOI_MEM(block), large, 0, bytes, LARGE)); }
 static void make_and_free(void) {
     uint16_t chunk;
-    must(takhvoi_lalloc(&kernel, block, 16, &chunk));
-    must(takhvoi_lfree(&kernel, block, chunk));
+    must(takhvoi_lalloc(&kernel, TAKHVOI_MEM(block), 16, &chunk));
+    must(takhvoi_lfree(&kernel, TAKHVOI_MEM(block), chunk));
 }
 
 static void run(void) {
@@ -67,8 +67,8 @@ static void make_records(void) {
 int main(void) {
     must(takhvoi_new(&kernel, 1 << 16, 1 << 20));
     must(takhvoi_mnew(&kernel, &block));
-    must(takhvoi_lalloc(&kernel, block, LARGE, &large));
-    must(takhvoi_lalloc(&kernel, block, RECORD, &record));
+    must(takhvoi_lalloc(&kernel, TAKHVOI_MEM(block), LARGE, &large));
+    must(takhvoi_lalloc(&kernel, TAKHVOI_MEM(block), RECORD, &record));
     must(takhvoi_vnew(&kernel, 1, &of_file));
     must(takhvoi_unlock(&kernel, TAKHVOI_VM(of_file)));
     load();

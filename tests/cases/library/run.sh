@@ -12,6 +12,16 @@ cc -std=c99 -D_POSIX_C_SOURCE=200809L -Wall -Wextra -Werror -O2 -I"$folder" -o "
 cc -std=c99 -D_POSIX_C_SOURCE=200809L -Wall -Wextra -Werror -O2 -I"$folder" -Wl,--wrap=malloc,--wrap=realloc -o "$folder/refused" \
     "$top/tests/refused_allocations.c" "$folder/libtakhvoi.a" || exit
 
+# A handle is no block, and a block is no handle.
+compiles() {
+    printf '#include "takhvoi.h"\nuint32_t f(takhvoi_kernel *k, uint16_t h);\nuint32_t f(takhvoi_kernel *k, uint16_t h) { return %s; }\n' "$1" |
+        cc -std=c99 -fsyntax-only -I"$folder" -x c - 2>/dev/null
+}
+compiles 'takhvoi_lalloc(k, TAKHVOI_MEM(h), 1, &h) + takhvoi_vdirty(k, h)' || echo "a call with a block is refused"
+for misuse in 'takhvoi_lalloc(k, h, 1, &h)' 'takhvoi_unlock(k, h)' 'takhvoi_vdirty(k, TAKHVOI_VM(h))' 'takhvoi_mlock(k, TAKHVOI_MEM(h))'; do
+    compiles "$misuse" && echo "it compiles: $misuse"
+done
+
 ./refused refused.vm
 ./book b.vm add Bohr 17 && ./book b.vm add Curie 29 && ./book b.vm add Cantor 31 && ./book b.vm list
 echo "from B to B: $(./book b.vm run "$top/library/starting.asm" 66 66)"
