@@ -143,10 +143,11 @@ uint32_t takhvoi_abi(void);
  *   - A block is locked at most 65,535 times at once. At the next lock the answer is TAKHVOI_LOCKED.
  *   - A run puts out at most 1,024 words. */
 
-/* Kernels. The region is all memory for blocks, 65,536 to 16,777,216 bytes. An area has room for the current and the saved blocks of a VM file
- * together, 512 to 16,777,216 bytes, a multiple of 512. `new` has its VM file in memory. For a file of the system take takhvoi_file_create and
- * takhvoi_file_open, below, which stand on `create`, where a host holds 1,024 zeros and two areas of them, and on `open`, where it holds these
- * bytes. */
+/* Kernels. The region is all memory for blocks, 65,536 to 16,777,216 bytes. An area has room for the current and the saved state together, each
+ * with all its blocks: 512 to 16,777,216 bytes, a multiple of 512. A VM file has two areas, of which one is read; a commit writes the other, and
+ * is refused with TAKHVOI_TOO_BIG if both states do not fit. `new` has its VM file in memory. For a file of the system take takhvoi_file_create
+ * and takhvoi_file_open, below. They call `create`, after which the host holds 1,024 zeros and two areas of zeros, and `open`, for which the host
+ * holds these bytes. */
 TAKHVOI_CALL uint32_t takhvoi_new(takhvoi_kernel *kernel, uint32_t area, uint32_t region);
 TAKHVOI_CALL uint32_t takhvoi_create(takhvoi_kernel *kernel, uint32_t area, uint32_t region);
 TAKHVOI_CALL uint32_t takhvoi_open(takhvoi_kernel *kernel, const uint8_t *bytes, size_t len, uint32_t region, uint64_t *fault);
@@ -242,7 +243,7 @@ TAKHVOI_CALL uint32_t takhvoi_performed(takhvoi_kernel *kernel);
 TAKHVOI_CALL uint32_t takhvoi_load(takhvoi_kernel *kernel, const uint8_t *bytes, size_t len, uint32_t *image, uint64_t *place, uint32_t *rule);
 /* Frees an image: its number is given again. */
 TAKHVOI_CALL uint32_t takhvoi_unload(takhvoi_kernel *kernel, uint32_t image);
-/* The number of the routine with a name. */
+/* The number of the routine with a name: no two of an image have the same. NOT_ADMITTED if there is no such image or routine. */
 TAKHVOI_CALL uint32_t takhvoi_routine(takhvoi_kernel *kernel, uint32_t image, const uint8_t *name, size_t name_len, uint16_t *routine);
 /* Runs a public routine: `words` are w0 to w7, before and after. `lent` has the handle of a locked block of the VM file for each slot that the
  * routine borrows, and 0 for the others; no other block of the file is locked. Of the `count` words that it puts out, as many as there is room

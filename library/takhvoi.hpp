@@ -244,7 +244,7 @@ private:
 /// An image that the verifier accepted, which is unloaded at its end. It may be moved, not copied.
 class Image {
 public:
-    /// The first routine with a name.
+    /// The routine with a name: no two of an image have the same.
     Result<Routine> routine(std::string_view name) const & {
         Bytes bytes(name);
         auto found = detail::told<std::uint16_t>(

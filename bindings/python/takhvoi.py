@@ -425,7 +425,7 @@ class Image:
         return self._number
 
     def routine(self, name: str) -> int:
-        """The number of the first routine with a name."""
+        """The number of the routine with a name: no two of an image have the same."""
         spelled = name.encode()
         return self._kernel._told("routine", self._given(), spelled, len(spelled))
 

@@ -78,7 +78,7 @@ impl Kernel {
         done(unsafe { raw::takhvoi_unload(self.raw(), self.own(&image)?) })
     }
 
-    /// The first routine of an image with a name.
+    /// The routine of an image with a name: no two have the same.
     pub fn routine<'i>(&self, image: &'i Image, name: impl AsRef<[u8]>) -> Result<Routine<'i>> {
         let (own, name) = (self.own(image)?, name.as_ref());
         let number = told(|number| unsafe { raw::takhvoi_routine(self.raw(), own, name.as_ptr(), name.len(), number) })?;

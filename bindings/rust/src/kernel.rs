@@ -39,7 +39,7 @@ impl Name {
 /// How many bytes a new kernel has.
 #[derive(Clone, Copy, Debug, PartialEq, Eq)]
 pub struct Sizes {
-    /// Half of what its VM file may keep: 512 to 16,777,216, a multiple of 512.
+    /// Room for the current and the saved state of its VM file together: 512 to 16,777,216, a multiple of 512.
     pub area: u32,
     /// All memory for its blocks: 65,536 to 16,777,216.
     pub region: u32,
