@@ -146,10 +146,12 @@ uint32_t takhvoi_abi(void);
 /* Kernels. The region is all memory for blocks, 65,536 to 16,777,216 bytes. An area has room for the current and the saved state together, each
  * with all its blocks: 512 to 16,777,216 bytes, a multiple of 512. A VM file has two areas, of which one is read; a commit writes the other, and
  * is refused with TAKHVOI_TOO_BIG if both states do not fit. `new` has its VM file in memory. For a file of the system take takhvoi_file_create
- * and takhvoi_file_open, below. They call `create`, after which the host holds 1,024 zeros and two areas of zeros, and `open`, for which the host
- * holds these bytes. */
+ * and takhvoi_file_open, below. They call `create`, whose host begins with 1,024 zeros and two areas of zeros, and `open`, whose host has these
+ * bytes. */
 TAKHVOI_CALL uint32_t takhvoi_new(takhvoi_kernel *kernel, uint32_t area, uint32_t region);
 TAKHVOI_CALL uint32_t takhvoi_create(takhvoi_kernel *kernel, uint32_t area, uint32_t region);
+/* BAD_FILE tells the offset of the first field that breaks its rule or is cut off. It is past the end of a file that is too short: 1,024 for the
+ * first 871 bytes of one, since area A begins there. */
 TAKHVOI_CALL uint32_t takhvoi_open(takhvoi_kernel *kernel, const uint8_t *bytes, size_t len, uint32_t region, uint64_t *fault);
 /* What no commit has kept is lost. */
 uint32_t takhvoi_close(takhvoi_kernel *kernel);
@@ -190,7 +192,8 @@ TAKHVOI_CALL uint32_t takhvoi_caread(takhvoi_kernel *kernel, takhvoi_block block
 TAKHVOI_CALL uint32_t takhvoi_cawrite(takhvoi_kernel *kernel, takhvoi_block block, uint16_t chunk, uint16_t index, uint16_t at,
                                       const uint8_t *from, size_t len);
 
-/* Blocks of the VM file. The map block is the one by which a program finds the others. */
+/* Blocks of the VM file. The map block is the one by which a program finds the others. Of a group, vlock, vfree and vsetmap answer
+ * TAKHVOI_RESERVED, and ilock and gfree are to be taken; vdirty and vuid take groups too. */
 TAKHVOI_CALL uint32_t takhvoi_vnew(takhvoi_kernel *kernel, uint16_t user_id, uint16_t *handle);
 TAKHVOI_CALL uint32_t takhvoi_vlock(takhvoi_kernel *kernel, uint16_t handle);
 TAKHVOI_CALL uint32_t takhvoi_vdirty(takhvoi_kernel *kernel, uint16_t handle);
@@ -246,9 +249,10 @@ TAKHVOI_CALL uint32_t takhvoi_unload(takhvoi_kernel *kernel, uint32_t image);
 /* The number of the routine with a name: no two of an image have the same. NOT_ADMITTED if there is no such image or routine. */
 TAKHVOI_CALL uint32_t takhvoi_routine(takhvoi_kernel *kernel, uint32_t image, const uint8_t *name, size_t name_len, uint16_t *routine);
 /* Runs a public routine: `words` are w0 to w7, before and after. `lent` has the handle of a locked block of the VM file for each slot that the
- * routine borrows, and 0 for the others; no other block of the file is locked. Of the `count` words that it puts out, as many as there is room
- * for come into `output`. What the routine commits is noted, as by the commits above: for a takhvoi_file take takhvoi_file_run. After this one, as
- * after takhvoi_save, changes answer TAKHVOI_PENDING until takhvoi_file_flush has performed what is noted. */
+ * routine borrows, and 0 for the others; no other block of the file is locked, and none more often than it is lent. Otherwise the answer is
+ * NOT_ADMITTED, as it is if there is no such image or public routine, or a word is past its bound. Of the `count` words that the routine puts
+ * out, as many as there is room for come into `output`. What it commits is noted, as by the commits above: for a takhvoi_file take
+ * takhvoi_file_run. After this call, as after takhvoi_save, changes answer TAKHVOI_PENDING until takhvoi_file_flush has performed that. */
 TAKHVOI_CALL uint32_t takhvoi_run(takhvoi_kernel *kernel, uint32_t image, uint16_t routine, uint16_t words[8], const uint16_t lent[4],
                                   uint16_t *output, size_t room, uint32_t *count, uint32_t *steps);
 

@@ -276,7 +276,7 @@ public:
     static Result<Kernel> create(const std::string &path, std::uint32_t area, std::uint32_t region = region_of_1_mib) {
         return opened([&](takhvoi_file *file, std::uint64_t *) { return takhvoi_file_create(file, path.c_str(), area, region); });
     }
-    /// A kernel on a file that is there. Where it is no VM file, the fault's place is the offset of the first faulty byte.
+    /// A kernel on a file that is there. Where it is no VM file, the fault's place is the offset of the first field that is faulty or cut.
     static Result<Kernel> open(const std::string &path, std::uint32_t region = region_of_1_mib) {
         return opened([&](takhvoi_file *file, std::uint64_t *place) { return takhvoi_file_open(file, path.c_str(), region, place); });
     }

@@ -20,7 +20,7 @@ TAKHVOI_CALL uint32_t takhvoi_file_flush(takhvoi_file *file);
  * commit or after it. */
 uint32_t takhvoi_file_close(takhvoi_file *file);
 
-/* Opens a file, and takes its lock. BAD_FILE tells the offset of the first faulty byte in `fault`. */
+/* Opens a file, and takes its lock. BAD_FILE tells in `fault` what takhvoi_open does. */
 TAKHVOI_CALL uint32_t takhvoi_file_open(takhvoi_file *file, const char *path, uint32_t region, uint64_t *fault);
 
 /* Makes a file that is not there yet, takes its lock, and makes the file and its path last. The file gets the path only when it is whole; so

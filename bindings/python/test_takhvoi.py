@@ -118,6 +118,9 @@ class Blocks(unittest.TestCase):
             block.mark()
             block.chunk(item).write(0, b"xyz")
             self.assertEqual(block.chunk(item).read(), b"xyz")
+        for call in (kernel.lock_file_block, kernel.free_file_block, kernel.set_map_block):
+            with self.refuses(15):
+                call(group)
         kernel.free_item(group, item)
         kernel.free_group(group)
 
@@ -147,6 +150,9 @@ class Blocks(unittest.TestCase):
                 for lent in ([], [memory], [block] * 5):
                     with self.refuses(114):
                         image.run("first", lent=lent)
+                # another block of the file is locked
+                with kernel.make_file_block(2), self.refuses(114):
+                    image.run("first", lent=[block])
             with self.refuses(114):
                 image.routine("sub")
         with self.refuses(114):
@@ -223,11 +229,15 @@ class Files(unittest.TestCase):
             self.assertEqual(closed.exception.number, 100)
             with Kernel.open(path) as kernel, kernel.lock_file_block(block.handle) as again:
                 self.assertEqual(again.chunk(16).read(), b"kept")
-            with open(path, "wb") as file:
-                file.write(b"none")
-            with self.assertRaises(Error) as bad:
-                Kernel.open(path)
-            self.assertEqual(bad.exception.number, 110)
+            with open(path, "rb") as file:
+                whole = file.read()
+            # no VM file, and one whose first area is cut off
+            for content, place in ((b"none", 0), (whole[:871], 1024)):
+                with open(path, "wb") as file:
+                    file.write(content)
+                with self.assertRaises(Error) as bad:
+                    Kernel.open(path)
+                self.assertEqual((bad.exception.number, bad.exception.place), (110, place))
             with self.assertRaises(Error) as size:
                 Kernel.in_memory(area=(1 << 32) + 512)
             self.assertEqual(size.exception.number, 105)

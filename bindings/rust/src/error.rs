@@ -15,7 +15,7 @@ macro_rules! refusals {
             $(#[doc = $text] $name,)*
             /// no VM file
             BadFile {
-                /// of its first faulty byte
+                /// of its first field that is faulty or cut
                 offset: u64,
             },
             /// no image

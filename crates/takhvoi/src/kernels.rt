@@ -116,7 +116,8 @@ pub extern "C" fn takhvoi_create(alloc: Global, handle: &mut Handle, area: u32, 
     start_new(alloc, handle, area, region, true)
 }
 
-/// The same on the VM file of which a host holds the bytes. Where they are none, `fault` is the offset of the first faulty byte.
+/// The same on the VM file of which a host holds the bytes. Where they are none, `fault` is the offset of the first field that is
+/// faulty or cut.
 #[unsafe(no_mangle)]
 pub extern "C" fn takhvoi_open(
     alloc: Global,
