@@ -28,33 +28,42 @@ struct Diagnostics<'a> {
     refusals: u32,
 }
 
+/// Appends which instruction of an image it is.
+fn put_pc(out: &mut Vec<u8>, place: &Place) -> Done {
+    put!(out; ": routine " bytes(place.routine.name_text()) ", pc " {place.pc})
+}
+
+/// Appends where the instruction is: its line, or of an image without a text its routine and pc.
+fn put_place(out: &mut Vec<u8>, file: &str, place: &Place) -> Done {
+    put!(out; [file])?;
+    match place.lines.get(usize::from(place.pc)) {
+        Some(line) => put!(out; ":" {*line}),
+        None => put_pc(out, place),
+    }
+}
+
+/// Appends the line of a refusal by the rule.
+fn put_line(out: &mut Vec<u8>, file: &str, place: &Place, rule: Rule) -> Done {
+    put_place(out, file, place)?;
+    put!(out; ": error: V" {rule_number(rule)} ":")?;
+    put_words(out, place, rule)?;
+    put!(out; "\n")
+}
+
+/// Appends how many refusals have no line.
+fn put_more(out: &mut Vec<u8>, file: &str, more: u32) -> Done {
+    put!(out; [file] ": note: and " {more} " more\n")
+}
+
 impl Diagnostics<'_> {
-    /// Appends where the instruction is: its line, or of an image without a text its routine and pc.
-    fn put_place(&mut self, place: &Place) -> Done {
-        match place.lines.get(usize::from(place.pc)) {
-            Some(line) => put!(&mut self.out; [self.file] ":" {*line}),
-            None => {
-                put!(&mut self.out; [self.file] ": routine " bytes(place.routine.name_text()) ", pc " {place.pc})
-            }
-        }
-    }
-
-    /// Appends the line of a refusal by the rule.
-    fn put_line(&mut self, place: &Place, rule: Rule) -> Done {
-        self.put_place(place)?;
-        put!(&mut self.out; ": error: V" {rule_number(rule)} ":")?;
-        put_words(&mut self.out, place, rule)?;
-        put!(&mut self.out; "\n")
-    }
-
     /// Takes the next refusal, which has a line if it is one of the first.
     fn take(&mut self, place: &Place, rule: Rule) -> Done {
         self.refusals = self.refusals.saturating_add(1);
-        if self.refusals <= MOST {
-            self.put_line(place, rule)
-        } else {
-            Ok(())
+        if self.refusals > MOST {
+            return Ok(());
         }
+        let file = self.file;
+        put_line(&mut self.out, file, place, rule)
     }
 
     /// Takes the refusal of the instruction at a pc, if a rule refuses it, and that of the routine's budget at its first one.
@@ -94,12 +103,11 @@ impl Diagnostics<'_> {
         for r in 0..explained.image.count() {
             self.take_routine(explained, r)?;
         }
-        if self.refusals > MOST {
-            let more = self.refusals - MOST;
-            put!(&mut self.out; [self.file] ": note: and " {more} " more\n")
-        } else {
-            Ok(())
+        if self.refusals <= MOST {
+            return Ok(());
         }
+        let (file, more) = (self.file, self.refusals - MOST);
+        put_more(&mut self.out, file, more)
     }
 }
 
