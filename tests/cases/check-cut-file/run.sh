@@ -1,4 +1,4 @@
-# The first bytes of an image, and a file of none.
+# The first bytes of an image, and a file of none, which is read as a text.
 folder=$(mktemp -d)
 trap 'rm -rf "$folder"' EXIT
 "$1" asm "$(dirname "$0")/../../../examples/add.asm" "$folder/image"
