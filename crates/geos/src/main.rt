@@ -52,20 +52,23 @@ fn run_request(rt: &HostRuntime, asked: Asked) -> ExitCode
     }
 }
 
-/// Answers words that ask for no topic of the help.
-fn run_words(rt: &HostRuntime, words: &[String]) -> ExitCode {
-    match requested(rt.alloc(), words) {
-        Ok(asked) => run_request(rt, asked),
-        Err(answer) => answered(rt, words, &answer),
+/// The answer to words that ask for nothing to be done: the text on a topic, if they ask for one, which is no command.
+fn topic_or(rt: &HostRuntime, words: &[String], answer: Answer) -> Answer {
+    if !matches!(answer, Answer::Misuse(_)) {
+        return answer;
+    }
+    match topic_of(rt.alloc(), words) {
+        Ok(Some(text)) => Answer::Text(text),
+        Ok(None) => answer,
+        Err(_) => Answer::Memory,
     }
 }
 
 /// Does what the words ask for, and returns the program's status.
 fn run(rt: &HostRuntime, words: &[String]) -> ExitCode {
-    match topic_of(rt.alloc(), words) {
-        Ok(Some(text)) => answered(rt, words, &Answer::Text(text)),
-        Ok(None) => run_words(rt, words),
-        Err(_) => answered(rt, words, &Answer::Memory),
+    match requested(rt.alloc(), words) {
+        Ok(asked) => run_request(rt, asked),
+        Err(answer) => answered(rt, words, &topic_or(rt, words, answer)),
     }
 }
 

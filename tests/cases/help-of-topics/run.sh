@@ -5,6 +5,9 @@ program=$1
 tables=$(mktemp)
 trap 'rm -f "$tables"' EXIT
 "$program" help deref
+# A command goes before the instruction of its name.
+"$program" help call | head -n 1
+"$program" help CALL | head -n 1
 for topic in V4 v14 "refused 4" "why 2" "no topic"; do
     "$program" help $topic 2>&1 | head -n 1
 done
