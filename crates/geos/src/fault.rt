@@ -1,12 +1,10 @@
 //! Why a request was not carried out.
 
-use geos_cli::ScriptFault;
 use geos_files::FileFault;
 use geos_runs::RunFault;
-use geos_shell::{Named, StreamFault, tell};
 use geos_texts::{Runnable, TextFault};
+use std::alloc::Global;
 use thiserror::Error;
-use vm_file::OpenError;
 
 /// Why a request was not carried out.
 #[derive(Debug, Drop, Error)]
@@ -26,45 +24,12 @@ pub(crate) enum RequestFault<'a> {
 }
 
 impl RequestFault<'_> {
-    /// Says more of the fault on standard error, in lines `FILE:LINE: error: ..` and `FILE: note: ..`.
-    pub(crate) fn tell_more(&self, rt: &HostRuntime) {
-        if let Some((path, reason)) = self.stream_fault().and_then(StreamFault::reason) {
-            let path = Named(path);
-            let _ = eprintln!(rt; "{path}: note: {reason}");
-        }
-        if let Some(FileFault::Open(path, OpenError::BadFile(0))) = self.file_fault() {
-            let path = Named(path);
-            let _ = eprintln!(rt; "{path}: note: this is no VM file: geos new makes one");
-        }
+    /// What more there is to say of the fault, as diagnostics: lines `FILE:LINE: error: ..` and `FILE: note: ..`. Empty if there is no more.
+    pub(crate) fn diagnostics(&self, alloc: Global) -> Vec<u8> {
         match self {
-            RequestFault::Text(fault) => tell(rt, &fault.diagnostics(rt.alloc())),
-            RequestFault::Ran(RunFault::Session(ScriptFault::Rejected(..)), runnable) => {
-                tell(rt, &runnable.told(rt.alloc()));
-            }
-            _ => {}
-        }
-    }
-
-    /// What is wrong with a VM file, if one is not made, opened or shown.
-    fn file_fault(&self) -> Option<&FileFault<'_>> {
-        match self {
-            RequestFault::File(fault)
-            | RequestFault::Run(RunFault::File(fault))
-            | RequestFault::Ran(RunFault::File(fault), _) => Some(fault),
-            _ => None,
-        }
-    }
-
-    /// What is wrong with a file or a stream, if one is not read or written.
-    fn stream_fault(&self) -> Option<&StreamFault<'_>> {
-        match self {
-            RequestFault::Text(TextFault::Stream(fault))
-            | RequestFault::Run(RunFault::Stream(fault))
-            | RequestFault::Ran(RunFault::Stream(fault), _) => Some(fault),
-            _ => match self.file_fault() {
-                Some(FileFault::Stream(fault)) => Some(fault),
-                _ => None,
-            },
+            RequestFault::Text(fault) => fault.diagnostics(alloc),
+            RequestFault::Ran(_, routines) => routines.told(alloc),
+            RequestFault::Run(_) | RequestFault::File(_) => Vec::new(alloc),
         }
     }
 }

@@ -7,7 +7,7 @@ mod fault;
 mod requests;
 
 use fault::RequestFault;
-use geos_shell::{Answer, Asked, keep_stream_numbers, requested, words};
+use geos_shell::{Answer, Asked, keep_stream_numbers, requested, tell, words};
 use geos_topics::topic_of;
 use requests::carry_out;
 use std::fmt::Display;
@@ -32,7 +32,7 @@ fn answered(rt: &HostRuntime, words: &[String], answer: &Answer) -> ExitCode {
 fn fail_request(rt: &HostRuntime, fault: &RequestFault<'_>, wants_diagnostics: bool) -> ExitCode {
     let _ = eprintln!(rt; "{fault}");
     if wants_diagnostics {
-        fault.tell_more(rt);
+        tell(rt, &fault.diagnostics(rt.alloc()));
     }
     ExitCode::FAILURE
 }

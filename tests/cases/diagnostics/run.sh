@@ -1,6 +1,6 @@
 # With --diagnostics the line of a fault is followed by lines that editors read: FILE:LINE:COLUMN: error: for each faulty line, FILE:LINE:
-# error: for each refusal and for a routine without rows, and of an image without a text its routine and pc. A file that can't be read has
-# the reason. Without the flag, and if standard error is no terminal, there is only the first line.
+# error: for each refusal and for a routine without rows, and of an image without a text its routine and pc. Without the flag, and if
+# standard error is no terminal, there is only the first line.
 export LC_ALL=C
 cases=$(cd "$(dirname "$0")" && pwd)
 program=$(readlink -f "$1")
