@@ -150,8 +150,8 @@ uint32_t takhvoi_abi(void);
  * bytes. */
 TAKHVOI_CALL uint32_t takhvoi_new(takhvoi_kernel *kernel, uint32_t area, uint32_t region);
 TAKHVOI_CALL uint32_t takhvoi_create(takhvoi_kernel *kernel, uint32_t area, uint32_t region);
-/* BAD_FILE tells the offset of the first field that breaks its rule or is cut off. It is past the end of a file that is too short: 1,024 for the
- * first 871 bytes of one, since area A begins there. */
+/* BAD_FILE tells the offset of the first field that breaks its rule or is cut off. It is past the end of a file that is too short: for the first
+ * 871 bytes of one it is where the area begins that is read, 1,024 for area A. */
 TAKHVOI_CALL uint32_t takhvoi_open(takhvoi_kernel *kernel, const uint8_t *bytes, size_t len, uint32_t region, uint64_t *fault);
 /* What no commit has kept is lost. */
 uint32_t takhvoi_close(takhvoi_kernel *kernel);
