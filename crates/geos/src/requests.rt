@@ -9,7 +9,7 @@ use geos_files::{draw_file, make_file, print_file};
 use geos_runs::{Manner, RunFault, Traceable, call as run_call, get, put, run, session, trace};
 use geos_scripts::NameUse;
 use geos_shell::{FileRequest, Request, RoutineRequest, TextRequest};
-use geos_texts::{Runnable, assemble, budget, check, explain, explain_script, list};
+use geos_texts::{Runnable, TextFault, assemble, budget, check, explain, explain_script, list};
 
 /// What a script does after a refused command.
 fn mode_of(strict: bool) -> Mode {
@@ -98,24 +98,23 @@ fn run_routines<'a>(rt: &HostRuntime, request: RoutineRequest<'a>) -> Result<(),
 }
 
 /// Works on a text or an image as the request asks.
-fn work_on_text<'a>(rt: &HostRuntime, request: TextRequest<'a>) -> Result<(), RequestFault<'a>> {
+fn work_on_text<'a>(rt: &HostRuntime, request: TextRequest<'a>) -> Result<(), TextFault<'a>> {
     match request {
         TextRequest::Assemble {
             text,
             image,
             all_rows,
-        } => assemble(rt, text, image, all_rows)?,
-        TextRequest::Budget { text, new } => budget(rt, text, new)?,
-        TextRequest::List(path) => list(rt, path)?,
-        TextRequest::Check(path) => check(rt, path)?,
-        TextRequest::Explain(path) => explain(rt, path)?,
+        } => assemble(rt, text, image, all_rows),
+        TextRequest::Budget { text, new } => budget(rt, text, new),
+        TextRequest::List(path) => list(rt, path),
+        TextRequest::Check(path) => check(rt, path),
+        TextRequest::Explain(path) => explain(rt, path),
         TextRequest::ExplainScript {
             image,
             script,
             names,
-        } => explain_script(rt, image, script, use_of(names))?,
+        } => explain_script(rt, image, script, use_of(names)),
     }
-    Ok(())
 }
 
 /// Works on a VM file as the request asks.
@@ -123,13 +122,12 @@ fn work_on_file<'a>(rt: &HostRuntime, request: FileRequest<'a>) -> Result<(), Re
     requires { WorksWithinLimits request }
 {
     match request {
-        FileRequest::New { file, area } => make_file(rt, file, area)?,
-        FileRequest::Put { chunk, at, region } => put(rt, &chunk, at, region)?,
-        FileRequest::Get { chunk, region } => get(rt, &chunk, region)?,
-        FileRequest::Dump { file, chunks } => print_file(rt, file, detail_of(chunks))?,
-        FileRequest::Map { file, width } => draw_file(rt, file, width)?,
+        FileRequest::New { file, area } => Ok(make_file(rt, file, area)?),
+        FileRequest::Put { chunk, at, region } => Ok(put(rt, &chunk, at, region)?),
+        FileRequest::Get { chunk, region } => Ok(get(rt, &chunk, region)?),
+        FileRequest::Dump { file, chunks } => Ok(print_file(rt, file, detail_of(chunks))?),
+        FileRequest::Map { file, width } => Ok(draw_file(rt, file, width)?),
     }
-    Ok(())
 }
 
 /// Carries out a request.
@@ -138,7 +136,7 @@ pub(crate) fn carry_out<'a>(rt: &HostRuntime, request: Request<'a>) -> Result<()
 {
     match request {
         Request::Routines(request) => run_routines(rt, request),
-        Request::Text(request) => work_on_text(rt, request),
+        Request::Text(request) => Ok(work_on_text(rt, request)?),
         Request::File(request) => work_on_file(rt, request),
     }
 }
