@@ -1,0 +1,4 @@
+pub mod Sets
+pub mod Closed
+pub mod Passes
+pub mod Worked

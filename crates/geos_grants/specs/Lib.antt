@@ -1,0 +1,4 @@
+pub mod Effects
+pub mod Grants
+pub mod Routines
+pub mod Sets
