@@ -1,0 +1,7 @@
+pub mod Asked
+pub mod Executed
+pub mod Aims
+pub mod Spared
+pub mod Steps
+pub mod Runs
+pub mod Within
