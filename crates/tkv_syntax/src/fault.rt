@@ -1,0 +1,148 @@
+//! Faults of a source.
+
+use crate::words::Word;
+use std::alloc::{AllocError, AllocFailed};
+
+/// Why a source is refused. `Fault` says what its fields are for each.
+#[derive(Clone, Copy, PartialEq, Eq)]
+pub enum Why {
+    /// An allocation was refused.
+    Memory,
+    /// The source has more than 1,048,576 bytes.
+    TooLong,
+    /// No word of the language begins here.
+    NoWord,
+    /// A number is above 65,535, or has no digit, or no character is quoted.
+    BadNumber,
+    /// A name has more than 16 letters.
+    LongName,
+    /// `word` is wanted here.
+    Wanted,
+    /// A value is wanted here: a number, a name or a bracket.
+    WantedValue,
+    /// A condition is wanted here.
+    WantedTest,
+    /// `?` follows something that is never refused.
+    NotRefusable,
+    /// This can't be set.
+    NotSettable,
+    /// A routine has more than 8 parameters.
+    ManyParameters,
+    /// A lock is wanted before `as`.
+    WantedLock,
+    /// A name is used twice; `other` is its first place.
+    Twice,
+    /// Nothing has this name here.
+    Unknown,
+    /// The name stands for something of another kind than is wanted: a word.
+    NoWordHere,
+    /// A constant is wanted here.
+    NoConstant,
+    /// A locked block is wanted here.
+    NoBlock,
+    /// A pointer is wanted here.
+    NoPointer,
+    /// A call has another number of arguments; `number` is how many it takes.
+    Arguments,
+    /// The structure has no such field.
+    NoField,
+    /// The field has an index, or has none.
+    FieldIndex,
+    /// A constant is past what a word holds, or is divided by 0.
+    ConstantRange,
+    /// No instruction multiplies or divides by this: one side is to be a constant, a divisor a power of two.
+    NoInstruction,
+    /// This may be refused, and nothing says what happens then.
+    Unsaid,
+    /// The refusal has nowhere to go: the routine gives a result in any case.
+    NoWayOut,
+    /// The word is not set on each way to this place.
+    Unset,
+    /// `why` is not known here.
+    WhyUnknown,
+    /// The pointer may be stale; `other` is the call that may move its chunk.
+    Stale,
+    /// The pointer is not fetched on each way to this place.
+    NotFetched,
+    /// There is no word left.
+    NoWordLeft,
+    /// There is no pointer left.
+    NoPointerLeft,
+    /// There is no slot left.
+    NoSlotLeft,
+    /// There is no counter left.
+    NoCounterLeft,
+    /// Nothing leads to this place.
+    Unreached,
+    /// `break` or `continue` stands in no loop.
+    NoLoop,
+    /// A block of the file is locked here, and the call writes the file.
+    Commits,
+    /// The pointer has too few bytes; `number` is how many it is known to have.
+    PastEnd,
+    /// A value is dropped.
+    Dropped,
+    /// The call gives another number of values.
+    Values,
+    /// A routine calls itself.
+    CallsItself,
+    /// A public routine is called from outside only, takes words and lent blocks, and gives no result.
+    Public,
+    /// The blocks are of two kinds, or the block is of another kind than is wanted.
+    Kinds,
+    /// A loop is to have a turn at least.
+    NoTurn,
+    /// The source has too many declarations, instructions or nested blocks.
+    TooMany,
+    /// Nothing in this can be refused.
+    NothingRefused,
+    /// The condition holds always, or never.
+    AlwaysOrNever,
+    /// No way leads to the end of the routine.
+    NoEnd,
+    /// The program has no public routine.
+    NoRoutine,
+    /// The verifier refuses an instruction of this place; `number` is its rule.
+    Refused,
+    /// No bound on the steps of the routine is found.
+    NoSteps,
+}
+
+/// Why a source is refused, and where: offsets in the source.
+#[derive(Clone, Copy)]
+pub struct Fault {
+    pub why: Why,
+    /// Where it is.
+    pub at: u32,
+    /// Another place that it speaks of.
+    pub other: u32,
+    /// A number that it speaks of.
+    pub number: u16,
+    /// A word of the language that it speaks of.
+    pub word: Word,
+}
+
+impl Fault {
+    /// A fault of which only the place is to be told.
+    pub fn new(why: Why, at: u32) -> Fault {
+        Fault {
+            why,
+            at,
+            other: at,
+            number: 0,
+            word: Word::End,
+        }
+    }
+}
+
+impl From<AllocError> for Fault {
+    fn from(_: AllocError) -> Fault {
+        Fault::new(Why::Memory, 0)
+    }
+}
+
+impl<T: Drop> From<AllocFailed<T>> for Fault {
+    fn from(_: AllocFailed<T>) -> Fault {
+        Fault::new(Why::Memory, 0)
+    }
+}

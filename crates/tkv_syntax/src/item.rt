@@ -1,0 +1,120 @@
+//! The named program: what a source says, as a list of items. Each construct has items where it begins, where its parts meet and where
+//! it ends, as brackets have; a value has its operands before it.
+
+/// What an item is. `Item` has the fields that are named here.
+#[derive(Clone, Copy, PartialEq, Eq)]
+pub enum ItemKind {
+    // Values, which follow their operands.
+    /// The number `a`.
+    Number,
+    /// What the name stands for.
+    Named,
+    /// The number of the last refusal.
+    WhyValue,
+    Add,
+    Sub,
+    Mul,
+    Div,
+    Rem,
+    Mask,
+    Left,
+    Right,
+    /// A call with `a` arguments; `b` is 1 if `?` follows.
+    Call,
+    /// A field of what is before, with an index if `a` is 1; `b` is 1 if `?` follows.
+    Field,
+    /// The name of the word that is to hold a new block's handle.
+    Handle,
+
+    // Statements.
+    /// A statement begins: `a` is 1 if it has a handler, `b` if `?` follows what is put out.
+    Begin,
+    /// A statement ends.
+    End,
+    /// Names value `a` of `b`; no value, if `b` is 0.
+    Let,
+    /// Sets the name.
+    Assign,
+    /// Sets the field, as `Field` reads it.
+    Store,
+    /// Nothing is done with what the call gives.
+    Done,
+    /// Puts out a word.
+    Put,
+    /// Marks the block.
+    Dirty,
+    /// What handles the refusals of a statement, and its end.
+    Handler,
+    HandlerEnd,
+    Scope,
+    ScopeEnd,
+
+    // Conditions: alternatives, each of tests that are all to hold.
+    If,
+    Alt,
+    /// Compares two values: `a` is 0 to 7 for `==`, `!=`, `<`, `>=`, `>`, `<=`, `differ` and `same`.
+    Test,
+    AltEnd,
+    CondEnd,
+    Else,
+    IfEnd,
+
+    // Loops, locks and others.
+    /// At most so many turns as the constant `a` says.
+    Turns,
+    /// Counts the name from one value to another, by a third.
+    For,
+    /// A turn ends; all turns are used up; the loop ends.
+    TurnEnd,
+    LoopDone,
+    Try,
+    TryElse,
+    TryEnd,
+    /// The call locks a block: `a` and `b` are where its names stand, `c` is how many arguments it has; 256 is added if `?` follows.
+    Lock,
+    LockEnd,
+    LockElse,
+    LockDone,
+    Break,
+    Continue,
+    /// Fails; with a number before it, if `a` is 1.
+    Fail,
+    /// Returns `a` values.
+    Return,
+
+    // Declarations.
+    /// A routine: `a` is the sum of 1 for `pub`, 4 if it may be refused, 8 if it has a result; `b` is how many parameters follow.
+    Fn,
+    /// A word: `a` is 1 if the routine sets it, `b` is the constant that it is at most.
+    WordParam,
+    /// A block: `a` is 0 for `mem`, 1 for `vm`, 2 for `group`.
+    BlockParam,
+    /// A pointer: `a` is the constant of its bytes, `b` where its block's name stands.
+    PointerParam,
+    /// The statements of a routine begin: `a` is 1 if `else` follows them.
+    Body,
+    BodyElse,
+    BodyEnd,
+    /// Names a constant.
+    ConstDef,
+    /// A structure, whose fields follow: `a` is 1 for bytes, 2 for words, `b` is 1 if the count is before it.
+    StructDef,
+    FieldDef,
+    StructEnd,
+}
+
+/// No constant, or no place.
+pub const NONE: u32 = u32::MAX;
+
+/// A constant is a number below this, or the name that stands so far past it in the source.
+pub const NUMBERS: u32 = 65_536;
+
+/// An item: what it is, and where in the source it stands, mostly with its name.
+#[derive(Clone, Copy)]
+pub struct Item {
+    pub kind: ItemKind,
+    pub at: u32,
+    pub a: u32,
+    pub b: u32,
+    pub c: u32,
+}

@@ -1,0 +1,19 @@
+//! Sources of the structured language: words, and the named program that a source writes.
+//!
+//! docs/LANGUAGE.md has the grammar and the meaning.
+#![tactic(auto)]
+
+mod expressions;
+mod fault;
+mod item;
+mod parser;
+mod place;
+mod statements;
+mod token;
+mod words;
+
+pub use fault::{Fault, Why};
+pub use item::{Item, ItemKind, NONE, NUMBERS};
+pub use parser::{MOST_BYTES, parse_source};
+pub use place::{Place, place_of};
+pub use words::{Name, Word, name_at};

@@ -1,0 +1,258 @@
+//! The words of the language, and names.
+
+/// A word of the language, or one of the kinds of words that an author chooses.
+#[derive(Clone, Copy, PartialEq, Eq)]
+pub enum Word {
+    /// The end of the source.
+    End,
+    /// A name.
+    Named,
+    /// A number.
+    Number,
+    Pub,
+    Inline,
+    Fn,
+    Const,
+    Struct,
+    Let,
+    If,
+    Else,
+    While,
+    Loop,
+    For,
+    In,
+    Step,
+    Max,
+    Try,
+    As,
+    Out,
+    Dirty,
+    Fail,
+    Return,
+    Break,
+    Continue,
+    WhyWord,
+    To,
+    Arrow,
+    Same,
+    Unlike,
+    AtMost,
+    AtLeast,
+    Both,
+    Either,
+    Left,
+    Right,
+    Plus,
+    Minus,
+    Times,
+    Over,
+    Rest,
+    Mask,
+    Less,
+    More,
+    Set,
+    Not,
+    Asks,
+    Dot,
+    Comma,
+    Colon,
+    Stop,
+    Paren,
+    ParenEnd,
+    Brace,
+    BraceEnd,
+    Bracket,
+    BracketEnd,
+}
+
+/// The words that are spelled with letters.
+const LETTERED: [Word; 23] = [
+    Word::Pub,
+    Word::Inline,
+    Word::Fn,
+    Word::Const,
+    Word::Struct,
+    Word::Let,
+    Word::If,
+    Word::Else,
+    Word::While,
+    Word::Loop,
+    Word::For,
+    Word::In,
+    Word::Step,
+    Word::Max,
+    Word::Try,
+    Word::As,
+    Word::Out,
+    Word::Dirty,
+    Word::Fail,
+    Word::Return,
+    Word::Break,
+    Word::Continue,
+    Word::WhyWord,
+];
+
+/// The words that are spelled with signs, longer ones first.
+const SIGNS: [Word; 31] = [
+    Word::To,
+    Word::Arrow,
+    Word::Same,
+    Word::Unlike,
+    Word::AtMost,
+    Word::AtLeast,
+    Word::Both,
+    Word::Either,
+    Word::Left,
+    Word::Right,
+    Word::Plus,
+    Word::Minus,
+    Word::Times,
+    Word::Over,
+    Word::Rest,
+    Word::Mask,
+    Word::Less,
+    Word::More,
+    Word::Set,
+    Word::Not,
+    Word::Asks,
+    Word::Dot,
+    Word::Comma,
+    Word::Colon,
+    Word::Stop,
+    Word::Paren,
+    Word::ParenEnd,
+    Word::Brace,
+    Word::BraceEnd,
+    Word::Bracket,
+    Word::BracketEnd,
+];
+
+impl Word {
+    /// How it is spelled, or what it is called.
+    pub fn text(self) -> &'static str {
+        match self {
+            Word::End => "the end",
+            Word::Named => "a name",
+            Word::Number => "a number",
+            Word::Pub => "pub",
+            Word::Inline => "inline",
+            Word::Fn => "fn",
+            Word::Const => "const",
+            Word::Struct => "struct",
+            Word::Let => "let",
+            Word::If => "if",
+            Word::Else => "else",
+            Word::While => "while",
+            Word::Loop => "loop",
+            Word::For => "for",
+            Word::In => "in",
+            Word::Step => "step",
+            Word::Max => "max",
+            Word::Try => "try",
+            Word::As => "as",
+            Word::Out => "out",
+            Word::Dirty => "dirty",
+            Word::Fail => "fail",
+            Word::Return => "return",
+            Word::Break => "break",
+            Word::Continue => "continue",
+            Word::WhyWord => "why",
+            Word::To => "..",
+            Word::Arrow => "->",
+            Word::Same => "==",
+            Word::Unlike => "!=",
+            Word::AtMost => "<=",
+            Word::AtLeast => ">=",
+            Word::Both => "&&",
+            Word::Either => "||",
+            Word::Left => "<<",
+            Word::Right => ">>",
+            Word::Plus => "+",
+            Word::Minus => "-",
+            Word::Times => "*",
+            Word::Over => "/",
+            Word::Rest => "%",
+            Word::Mask => "&",
+            Word::Less => "<",
+            Word::More => ">",
+            Word::Set => "=",
+            Word::Not => "!",
+            Word::Asks => "?",
+            Word::Dot => ".",
+            Word::Comma => ",",
+            Word::Colon => ":",
+            Word::Stop => ";",
+            Word::Paren => "(",
+            Word::ParenEnd => ")",
+            Word::Brace => "{",
+            Word::BraceEnd => "}",
+            Word::Bracket => "[",
+            Word::BracketEnd => "]",
+        }
+    }
+}
+
+/// A name: up to 16 letters, digits and underscores, then zeros.
+pub type Name = [u8; 16];
+
+/// The byte at a place, or 0 past the end.
+pub(crate) fn byte_at(text: &[u8], at: usize) -> u8 {
+    match text.get(at) {
+        Some(byte) => *byte,
+        None => 0,
+    }
+}
+
+/// Whether a name may have the byte.
+pub(crate) fn is_letter(byte: u8) -> bool {
+    byte.is_ascii_alphanumeric() || byte == b'_'
+}
+
+/// The name that stands at a place of a source: its first 16 letters.
+pub fn name_at(text: &[u8], at: u32) -> Name {
+    let mut name = [0; 16];
+    for k in 0..16 {
+        let byte = byte_at(text, at as usize + k);
+        if !is_letter(byte) {
+            break;
+        }
+        name[k] = byte;
+    }
+    name
+}
+
+/// Whether these bytes stand at a place.
+fn stands(text: &[u8], at: u32, bytes: &[u8]) -> bool {
+    for (k, byte) in bytes.iter().enumerate() {
+        match text.get((at as usize).saturating_add(k)) {
+            Some(there) => {
+                if there != byte {
+                    return false;
+                }
+            }
+            None => return false,
+        }
+    }
+    true
+}
+
+/// The word that is spelled with so many letters here: a name, if no other word is.
+pub(crate) fn lettered(text: &[u8], at: u32, length: u32) -> Word {
+    for word in LETTERED {
+        let spelled = word.text().as_bytes();
+        if spelled.len() == length as usize && stands(text, at, spelled) {
+            return word;
+        }
+    }
+    Word::Named
+}
+
+/// The sign that stands at a place, if one does, and its length.
+pub(crate) fn sign(text: &[u8], at: u32) -> Option<(Word, u32)> {
+    for (k, word) in SIGNS.iter().enumerate() {
+        if stands(text, at, word.text().as_bytes()) {
+            return Some((*word, if k < 10 { 2 } else { 1 }));
+        }
+    }
+    None
+}
