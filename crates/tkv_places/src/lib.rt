@@ -1,0 +1,27 @@
+//! The placed program: named programs with names as registers, one instruction for each operation.
+//!
+//! docs/LANGUAGE.md says what programs mean.
+#![tactic(auto)]
+
+mod access;
+mod brackets;
+mod calls;
+mod declarations;
+mod inlined;
+mod leaves;
+mod locks;
+mod loops;
+mod moves;
+mod names;
+mod operands;
+mod operations;
+mod placed;
+mod placer;
+mod routine;
+mod state;
+mod statements;
+mod tests_of;
+
+pub use declarations::{Declared, declare};
+pub use placed::{Placed, PlacedKind};
+pub use routine::{PlacedRoutine, place_routine};

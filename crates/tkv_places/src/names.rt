@@ -1,0 +1,316 @@
+//! Names, and the registers that they take.
+
+ghost use Rattle.std.specs.Prelude.{◌<◌, IfOk, IfSome};
+
+use crate::declarations::Kind;
+use crate::placed::NOWHERE;
+use crate::placer::{Held, MOST_WORDS, Meaning, Operand, Placer, Sort, Symbol};
+use crate::state::bit;
+use tkv_syntax::{Fault, Item, ItemKind, Name, Why, name_at};
+
+/// A value with these fields.
+pub(crate) fn value(sort: Sort, at: u32, register: u8, number: u16) -> Operand {
+    Operand {
+        sort,
+        at,
+        register,
+        value: number,
+        structure: NOWHERE,
+    }
+}
+
+/// The last item that needs a name, as far as items are gone over.
+#[derive(Clone, Copy)]
+struct Need {
+    index: usize,
+    last: usize,
+    /// How many loops have begun, and whether one of them needs the name.
+    depth: u32,
+    waits: bool,
+}
+
+impl Need {
+    /// Goes over an item. Whether it ends the routine, or a loop that began before all.
+    fn ends(&mut self, kind: ItemKind, named: bool) -> bool {
+        if named {
+            self.last = self.index;
+            self.waits = self.depth > 0;
+        }
+        if matches!(kind, ItemKind::Turns | ItemKind::For) {
+            self.depth = self.depth.saturating_add(1);
+        }
+        if kind == ItemKind::TurnEnd {
+            if self.depth == 0 {
+                return true;
+            }
+            self.depth -= 1;
+            if self.depth == 0 && self.waits {
+                self.last = self.index;
+                self.waits = false;
+            }
+        }
+        self.index = self.index.saturating_add(1);
+        kind == ItemKind::BodyEnd
+    }
+}
+
+impl Placer<'_> {
+    /// What a name of the routine stands for.
+    pub(crate) fn symbol(&self, name: &Name) -> Option<Symbol> {
+        for (k, symbol) in self.symbols.iter().enumerate() {
+            if k >= self.base && symbol.name == *name {
+                return Some(*symbol);
+            }
+        }
+        None
+    }
+
+    /// Gives a name its meaning. The routine has no other name that is the same.
+    pub(crate) fn declare(&mut self, symbol: Symbol) -> Result<(), Fault> {
+        if let Some(old) = self.symbol(&symbol.name) {
+            return Err(Fault {
+                other: old.at,
+                ..Fault::new(Why::Twice, symbol.at)
+            });
+        }
+        match self.symbols.push(symbol) {
+            Ok(()) => Ok(()),
+            Err(_) => Err(Fault::new(Why::Memory, symbol.at)),
+        }
+    }
+
+    /// Names a register.
+    pub(crate) fn declare_as(
+        &mut self,
+        meaning: Meaning,
+        at: u32,
+        register: u8,
+    ) -> Result<(), Fault> {
+        self.declare(Symbol {
+            name: self.name(at),
+            at,
+            meaning,
+            register,
+            value: 0,
+            structure: NOWHERE,
+            last: usize::MAX,
+        })
+    }
+
+    /// Names a word that is free again after the last item that needs it.
+    pub(crate) fn declare_word(&mut self, at: u32, register: u8) -> Result<(), Fault> {
+        let last = self.last_need(at)?;
+        self.declare(Symbol {
+            name: self.name(at),
+            at,
+            meaning: Meaning::Word,
+            register,
+            value: 0,
+            structure: NOWHERE,
+            last,
+        })
+    }
+
+    /// The last item from here on that needs the name; in a loop that begins from here on, the end of a turn.
+    fn last_need(&mut self, at: u32) -> Result<usize, Fault> {
+        let name = self.name(at);
+        let items = self.items;
+        let from = self.next.min(items.len());
+        let mut need = Need {
+            index: from,
+            last: 0,
+            depth: 0,
+            waits: false,
+        };
+        for item in &items[from..] {
+            if self.effort == 0 {
+                return Err(Fault::new(Why::TooMany, at));
+            }
+            self.effort -= 1;
+            let named = matches!(
+                item.kind,
+                ItemKind::Named | ItemKind::Assign | ItemKind::Handle
+            );
+            if need.ends(item.kind, named && name_at(self.text, item.at) == name) {
+                break;
+            }
+        }
+        Ok(need.last)
+    }
+
+    /// The words that names of the routine need still.
+    pub(crate) fn needed_words(&self) -> u8 {
+        let mut words = 0;
+        for (k, symbol) in self.symbols.iter().enumerate() {
+            let word = matches!(symbol.meaning, Meaning::Word | Meaning::Fixed);
+            if word && k >= self.base && symbol.last >= self.next {
+                words |= bit(symbol.register);
+            }
+        }
+        words
+    }
+
+    /// Words that no name needs any more are free.
+    pub(crate) fn settle(&mut self) {
+        let needed = self.needed_words();
+        let mut named = self.callers;
+        for register in 0..MOST_WORDS {
+            if needed & bit(register) != 0 && register >= named {
+                named = register + 1;
+            }
+        }
+        self.named = named;
+        self.words = named;
+    }
+
+    /// The lowest word that a name had and that no name needs any more.
+    pub(crate) fn freed_word(&self) -> Option<u8>
+        ensures { IfSome result (λ word. word < 7) }
+    {
+        let needed = self.needed_words();
+        for register in 0..MOST_WORDS {
+            let free = register >= self.callers && register < self.named;
+            if free && needed & bit(register) == 0 {
+                return Some(register);
+            }
+        }
+        None
+    }
+
+    /// A free word for a name: the lowest.
+    pub(crate) fn take_named(&mut self, at: u32) -> Result<u8, Fault>
+        ensures { IfOk result (λ word. word < 7) }
+    {
+        match self.freed_word() {
+            Some(register) => Ok(register),
+            None => self.take_word(at),
+        }
+    }
+
+    /// The lowest word that is free.
+    pub(crate) fn take_word(&mut self, at: u32) -> Result<u8, Fault>
+        ensures { IfOk result (λ word. word < 7) }
+    {
+        if self.words >= MOST_WORDS {
+            return Err(Fault::new(Why::NoWordLeft, at));
+        }
+        let register = self.words;
+        self.words = register + 1;
+        Ok(register)
+    }
+
+    /// A word that keeps its value to the end of the construct.
+    pub(crate) fn keep_word(&mut self, register: u8) {
+        if register >= self.named && register < MOST_WORDS {
+            self.named = register + 1;
+        }
+        if self.words < self.named {
+            self.words = self.named;
+        }
+    }
+
+    /// The lowest pointer that is free, which will lead into the slot.
+    pub(crate) fn take_pointer(&mut self, slot: u8, at: u32) -> Result<u8, Fault>
+        ensures { IfOk result (λ pointer. pointer < 4) }
+    {
+        let register = self.pointers;
+        if register >= 4 {
+            return Err(Fault::new(Why::NoPointerLeft, at));
+        }
+        self.pointers = register + 1;
+        self.leads[usize::from(register)] = slot;
+        self.state = self.state.without_pointers(bit(register));
+        self.lost[usize::from(register)].lost = false;
+        Ok(register)
+    }
+
+    /// The lowest slot that is free.
+    pub(crate) fn free_slot(&self, at: u32) -> Result<u8, Fault>
+        ensures { IfOk result (λ slot. slot < 4) }
+    {
+        for slot in 0..4 {
+            if self.slots[slot] == Held::Free {
+                return Ok(slot as u8);
+            }
+        }
+        Err(Fault::new(Why::NoSlotLeft, at))
+    }
+
+    /// What a slot holds.
+    pub(crate) fn held(&self, slot: u8) -> Held {
+        if slot < 4 {
+            self.slots[usize::from(slot)]
+        } else {
+            Held::Free
+        }
+    }
+
+    pub(crate) fn hold(&mut self, slot: u8, held: Held) {
+        if slot < 4 {
+            self.slots[usize::from(slot)] = held;
+        }
+    }
+
+    pub(crate) fn push(&mut self, operand: Operand) -> Result<(), Fault> {
+        match self.operands.push(operand) {
+            Ok(()) => Ok(()),
+            Err(_) => Err(Fault::new(Why::Memory, operand.at)),
+        }
+    }
+
+    /// The value of a name.
+    pub(crate) fn named_value(&mut self, item: &Item) -> Result<(), Fault> {
+        let name = self.name(item.at);
+        if let Some(symbol) = self.symbol(&name) {
+            let sort = match symbol.meaning {
+                Meaning::Word | Meaning::Fixed => Sort::Word,
+                Meaning::Constant => Sort::Constant,
+                Meaning::Block => Sort::Block,
+                Meaning::Pointer => Sort::Pointer,
+            };
+            return self.push(Operand {
+                sort,
+                at: item.at,
+                register: symbol.register,
+                value: symbol.value,
+                structure: symbol.structure,
+            });
+        }
+        let index = self.declared.find(&name).unwrap_or(NOWHERE);
+        match self.declared.get(index) {
+            Some(global) => {
+                let sort = match global.kind {
+                    Kind::Constant => Sort::Constant,
+                    Kind::Structure => Sort::Structure,
+                    Kind::Routine => return Err(Fault::new(Why::NoWordHere, item.at)),
+                };
+                self.push(Operand {
+                    structure: index,
+                    ..value(sort, item.at, 0, global.value)
+                })
+            }
+            None => Err(Fault::new(Why::Unknown, item.at)),
+        }
+    }
+
+    /// The word for the handle of a block that is made. It is declared here if it is not known.
+    pub(crate) fn handle_value(&mut self, item: &Item) -> Result<(), Fault> {
+        let name = self.name(item.at);
+        let register = match self.symbol(&name) {
+            Some(symbol) => {
+                if symbol.meaning != Meaning::Word {
+                    return Err(Fault::new(Why::NotSettable, item.at));
+                }
+                symbol.register
+            }
+            None => {
+                let register = self.take_named(item.at)?;
+                self.keep_word(register);
+                self.state.words &= !bit(register);
+                self.declare_word(item.at, register)?;
+                register
+            }
+        };
+        self.push(value(Sort::Handle, item.at, register, 0))
+    }
+}

@@ -1,0 +1,299 @@
+//! What is known while a routine is placed.
+
+use crate::declarations::Declared;
+use crate::placed::{NOWHERE, Placed};
+use crate::state::State;
+use std::alloc::Global;
+use tkv_syntax::{Fault, Item, Name, Why, name_at};
+
+/// The words that names and values take: w0 to w6.
+pub(crate) const MOST_WORDS: u8 = 7;
+
+/// The most items that are gone over for a routine, with those of the routines that it calls.
+pub(crate) const MOST_EFFORT: u32 = 8_388_608;
+
+/// What a slot holds.
+#[derive(Clone, Copy, PartialEq, Eq)]
+pub(crate) enum Held {
+    Free,
+    Mem,
+    Vm,
+    /// A block that the caller lent.
+    Lent,
+    Group,
+}
+
+/// What a name stands for in a routine.
+#[derive(Clone, Copy, PartialEq, Eq)]
+pub(crate) enum Meaning {
+    /// A word that may be set.
+    Word,
+    /// A word that may not be set.
+    Fixed,
+    Constant,
+    Block,
+    Pointer,
+}
+
+/// A name of a routine.
+#[derive(Clone, Copy)]
+pub(crate) struct Symbol {
+    pub name: Name,
+    pub at: u32,
+    pub meaning: Meaning,
+    /// The word, slot or pointer.
+    pub register: u8,
+    /// The constant, or how many bytes a pointer has at least.
+    pub value: u16,
+    /// The structure of a pointer's bytes, or `NOWHERE`.
+    pub structure: u16,
+    /// The last item that needs it.
+    pub last: usize,
+}
+
+/// What a value is.
+#[derive(Clone, Copy, PartialEq, Eq)]
+pub(crate) enum Sort {
+    Constant,
+    /// A word with a name.
+    Word,
+    /// A word that only this value takes.
+    Temporary,
+    /// The number of the last refusal.
+    Why,
+    /// A word that is to be set to a handle.
+    Handle,
+    Block,
+    Pointer,
+    Structure,
+}
+
+/// A value that no item has taken yet.
+#[derive(Clone, Copy)]
+pub(crate) struct Operand {
+    pub sort: Sort,
+    pub at: u32,
+    pub register: u8,
+    pub value: u16,
+    pub structure: u16,
+}
+
+/// A block, loop or closing that has not ended.
+#[derive(Clone, Copy)]
+pub(crate) struct Bracket {
+    /// The slot of a closing, or 255.
+    pub slot: u8,
+    /// What is known where it is left to.
+    pub joined: State,
+}
+
+/// What a construct of the source is that has not ended.
+#[derive(Clone, Copy, PartialEq, Eq)]
+pub(crate) enum Construct {
+    Routine,
+    Inlined,
+    Handler,
+    Scope,
+    If,
+    Turns,
+    For,
+    Lock,
+    /// It takes refusals.
+    Try,
+    /// It took them.
+    Tried,
+}
+
+/// A construct that has not ended, and what is to be restored at its end.
+#[derive(Clone, Copy)]
+pub(crate) struct Frame {
+    pub construct: Construct,
+    pub at: u32,
+    /// The outermost of its blocks.
+    pub level: u16,
+    pub named: u8,
+    pub pointers: u8,
+    pub symbols: usize,
+    /// The counter of a loop, the slot of a lock, the word of a result.
+    pub register: u8,
+    /// The word that a loop counts by, or 255, and the step.
+    pub counted: u8,
+    pub step: u16,
+    /// What is known where turns begin, and whether control comes to their end first.
+    pub head: State,
+    pub counts_first: bool,
+    /// Of a routine: whether it may be refused, and whether it has a result.
+    pub refusable: bool,
+    pub gives: bool,
+    /// Of an inlined routine: where its refusals go, the item behind the call, and what was so at the call.
+    pub fails: u16,
+    pub back: usize,
+    pub routine: usize,
+    pub base: usize,
+    pub floor: usize,
+    pub callers: u8,
+    pub handler: u16,
+    pub asks: bool,
+}
+
+/// Why a pointer is stale: which call, or which loop, may move its chunk.
+#[derive(Clone, Copy)]
+pub(crate) struct Loss {
+    pub by: u32,
+    pub lost: bool,
+}
+
+/// A routine that is being placed.
+#[derive(Drop)]
+pub(crate) struct Placer<'a> {
+    pub alloc: Global,
+    pub text: &'a [u8],
+    pub items: &'a [Item],
+    pub declared: &'a Declared,
+    pub placed: Vec<Placed>,
+    pub brackets: Vec<Bracket>,
+    pub frames: Vec<Frame>,
+    pub symbols: Vec<Symbol>,
+    pub operands: Vec<Operand>,
+    pub state: State,
+    /// The item that is next.
+    pub next: usize,
+    /// How many words the callers have, how many have names, and how many are taken.
+    pub callers: u8,
+    pub named: u8,
+    pub words: u8,
+    pub named_pointers: u8,
+    pub pointers: u8,
+    pub counters: u8,
+    pub slots: [Held; 4],
+    /// The slots into which pointers lead.
+    pub leads: [u8; 4],
+    pub lost: [Loss; 4],
+    /// Where the refusals of the statement go if it has a handler, and whether `?` follows what it puts out.
+    pub handler: u16,
+    pub asks: bool,
+    /// The first symbol of the routine, and the first value of the statement.
+    pub base: usize,
+    pub floor: usize,
+    /// Whether w7 has an operand of the next instruction.
+    pub spare_taken: bool,
+    /// How many items may be gone over still.
+    pub effort: u32,
+}
+
+impl<'a> Placer<'a> {
+    pub(crate) fn new(
+        alloc: Global,
+        text: &'a [u8],
+        items: &'a [Item],
+        declared: &'a Declared,
+    ) -> Placer<'a> {
+        Placer {
+            alloc,
+            text,
+            items,
+            declared,
+            placed: Vec::new(alloc),
+            brackets: Vec::new(alloc),
+            frames: Vec::new(alloc),
+            symbols: Vec::new(alloc),
+            operands: Vec::new(alloc),
+            state: State {
+                alive: true,
+                words: 0,
+                pointers: 0,
+                marks: 0,
+                pairs: 0,
+            },
+            next: 0,
+            callers: 0,
+            named: 0,
+            words: 0,
+            named_pointers: 0,
+            pointers: 0,
+            counters: 0,
+            slots: [Held::Free; 4],
+            leads: [4; 4],
+            lost: [Loss { by: 0, lost: false }; 4],
+            handler: NOWHERE,
+            asks: false,
+            base: 0,
+            floor: 0,
+            spare_taken: false,
+            effort: MOST_EFFORT,
+        }
+    }
+}
+
+impl Placer<'_> {
+    /// The name that stands at a place.
+    pub(crate) fn name(&self, at: u32) -> Name {
+        name_at(self.text, at)
+    }
+
+    /// A construct begins, at whose end all names are forgotten that are known from now on.
+    pub(crate) fn frame(&self, construct: Construct, at: u32) -> Frame {
+        Frame {
+            construct,
+            at,
+            level: NOWHERE,
+            named: self.named,
+            pointers: self.named_pointers,
+            symbols: self.symbols.len(),
+            register: 0,
+            counted: 255,
+            step: 1,
+            head: self.state,
+            counts_first: false,
+            refusable: false,
+            gives: false,
+            fails: NOWHERE,
+            back: 0,
+            routine: 0,
+            base: self.base,
+            floor: self.floor,
+            callers: self.callers,
+            handler: self.handler,
+            asks: self.asks,
+        }
+    }
+
+    pub(crate) fn begin(&mut self, frame: Frame) -> Result<(), Fault> {
+        match self.frames.push(frame) {
+            Ok(()) => Ok(()),
+            Err(_) => Err(Fault::new(Why::Memory, frame.at)),
+        }
+    }
+
+    /// Forgets the names that are known since a construct began, and gives their registers back.
+    pub(crate) fn restore(&mut self, frame: &Frame) {
+        self.symbols.truncate(frame.symbols);
+        self.named = frame.named;
+        self.words = frame.named;
+        self.named_pointers = frame.pointers;
+        self.pointers = frame.pointers;
+    }
+
+    /// The innermost construct, without its end.
+    pub(crate) fn innermost(&self, at: u32) -> Result<Frame, Fault> {
+        match self.frames.last() {
+            Some(frame) => Ok(*frame),
+            None => Err(Fault::new(Why::Unreached, at)),
+        }
+    }
+
+    /// The innermost construct ends.
+    pub(crate) fn finish(&mut self, at: u32) -> Result<Frame, Fault> {
+        match self.frames.pop() {
+            Some(frame) => Ok(frame),
+            None => Err(Fault::new(Why::Unreached, at)),
+        }
+    }
+
+    /// The innermost construct becomes another one.
+    pub(crate) fn turn_into(&mut self, construct: Construct) {
+        if let Some(frame) = self.frames.last_mut() {
+            frame.construct = construct;
+        }
+    }
+}

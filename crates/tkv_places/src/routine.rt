@@ -1,0 +1,213 @@
+//! A public routine, placed.
+
+use crate::declarations::Declared;
+use crate::placed::{NOWHERE, Placed, bare};
+use crate::placer::{Construct, Frame, Held, Meaning, Placer};
+use geos_image::{Row, SlotState};
+use geos_opcodes::Opcode;
+use std::alloc::Global;
+use tkv_syntax::{Fault, Item, ItemKind, NONE, Why};
+
+/// The most items that are gone over for a routine, with those of the routines that it calls.
+const MOST_STEPS: u32 = 4_194_304;
+
+/// A placed routine.
+#[derive(Drop)]
+pub struct PlacedRoutine {
+    /// What holds where it begins.
+    pub entry: Row,
+    pub placed: Vec<Placed>,
+}
+
+impl Placer<'_> {
+    /// A parameter of a public routine.
+    fn public_parameter(&mut self, item: &Item, entry: &mut Row) -> Result<(), Fault> {
+        match item.kind {
+            ItemKind::WordParam => {
+                let register = self.take_word(item.at)?;
+                self.keep_word(register);
+                self.state = self.state.with_word(register);
+                if item.b != NONE {
+                    entry.bounds[usize::from(register)] = self
+                        .declared
+                        .constant(self.text, item.b)?;
+                }
+                self.declare_word(item.at, register)
+            }
+            ItemKind::BlockParam => {
+                if item.a != 1 {
+                    return Err(Fault::new(Why::Public, item.at));
+                }
+                let slot = self.free_slot(item.at)?;
+                self.hold(slot, Held::Lent);
+                entry.slots[usize::from(slot)] = SlotState::Vm {
+                    marked: false,
+                    borrowed: true,
+                };
+                self.declare_as(Meaning::Block, item.at, slot)
+            }
+            _ => Err(Fault::new(Why::Public, item.at)),
+        }
+    }
+
+    /// The routine of an item begins.
+    fn begin_routine(&mut self, index: usize, head: &Item) -> Result<Row, Fault> {
+        if head.a & 12 != 0 {
+            return Err(Fault::new(Why::Public, head.at));
+        }
+        let mut entry = Row::open();
+        let count = head.b.min(8) as usize;
+        self.next = index.saturating_add(1).saturating_add(count);
+        for k in 0..count {
+            let item = self.parameter(index, k, head.at)?;
+            self.public_parameter(&item, &mut entry)?;
+        }
+        let frame = Frame {
+            routine: index,
+            level: self.block(head.at)?,
+            ..self.frame(Construct::Routine, head.at)
+        };
+        self.begin(frame)?;
+        Ok(entry)
+    }
+
+    /// A routine ends. Whether it is the outermost.
+    fn end_routine(&mut self, at: u32) -> Result<bool, Fault> {
+        if self.innermost(at)?.construct == Construct::Tried {
+            self.attempt_end(at)?;
+        }
+        if self.innermost(at)?.construct == Construct::Inlined {
+            self.return_inlined(at)?;
+            return Ok(false);
+        }
+        self.finish(at)?;
+        self.end(at)?;
+        if !self.state.alive {
+            return Err(Fault::new(Why::NoEnd, at));
+        }
+        self.act(bare(Opcode::Ret), at)?;
+        Ok(true)
+    }
+
+    /// An item of a value.
+    fn value_item(&mut self, item: &Item) -> Result<(), Fault> {
+        use crate::names::value;
+        use crate::placer::Sort;
+        match item.kind {
+            ItemKind::Number => {
+                self.push(value(Sort::Constant, item.at, 0, item.a.min(65_535) as u16))
+            }
+            ItemKind::Named => self.named_value(item),
+            ItemKind::WhyValue => self.push(value(Sort::Why, item.at, 7, 0)),
+            ItemKind::Handle => self.handle_value(item),
+            ItemKind::Call => self.call(item),
+            ItemKind::Field => self.access(item, false),
+            _ => self.operation(item),
+        }
+    }
+
+    /// An item of a statement that is no bracket.
+    fn simple_item(&mut self, item: &Item) -> Result<(), Fault> {
+        match item.kind {
+            ItemKind::Begin => self.begin_statement(item),
+            ItemKind::Let => self.bind(item),
+            ItemKind::Assign => self.assign(item),
+            ItemKind::Store => self.access(item, true),
+            ItemKind::Done => self.done(item.at),
+            ItemKind::Put => self.put_out(item),
+            ItemKind::Dirty => self.make_dirty(item),
+            ItemKind::Break => self.break_out(item.at),
+            ItemKind::Continue => self.continue_loop(item.at),
+            ItemKind::Fail => self.fail(item),
+            ItemKind::Return => self.give_back(item),
+            ItemKind::Test => self.test(item),
+            ItemKind::End => {
+                self.clear();
+                self.handler = NOWHERE;
+                Ok(())
+            }
+            _ => self.value_item(item),
+        }
+    }
+
+    /// An item of a condition, a loop or a lock.
+    fn bracket_item(&mut self, item: &Item) -> Result<(), Fault> {
+        let at = item.at;
+        match item.kind {
+            ItemKind::If => self.conditional(item),
+            ItemKind::Alt => {
+                self.block(at)?;
+                Ok(())
+            }
+            ItemKind::AltEnd => self.alternative_end(at),
+            ItemKind::CondEnd => self.condition_end(at),
+            ItemKind::Else => self.otherwise(at),
+            ItemKind::IfEnd => self.conditional_end(at),
+            ItemKind::Turns => self.turns(item),
+            ItemKind::For => self.count(item),
+            ItemKind::TurnEnd => self.turn_end(at),
+            ItemKind::LoopDone => self.loop_done(at),
+            ItemKind::Lock => self.lock(item),
+            ItemKind::LockEnd => self.lock_end(at),
+            ItemKind::LockElse => self.lock_refused(at),
+            ItemKind::LockDone => self.lock_done(at),
+            _ => self.simple_item(item),
+        }
+    }
+
+    /// An item. Whether the outermost routine ends with it.
+    fn item(&mut self, item: &Item) -> Result<bool, Fault> {
+        let at = item.at;
+        match item.kind {
+            ItemKind::BodyEnd => return self.end_routine(at),
+            ItemKind::Body => {
+                if item.a != 0 {
+                    self.attempt(Construct::Try, at)?;
+                }
+            }
+            ItemKind::BodyElse | ItemKind::TryElse => self.attempted(at)?,
+            ItemKind::Try => self.attempt(Construct::Try, at)?,
+            ItemKind::TryEnd => self.attempt_end(at)?,
+            ItemKind::Handler => self.handle(at)?,
+            ItemKind::HandlerEnd => self.attempt_end(at)?,
+            ItemKind::Scope => {
+                let frame = self.frame(Construct::Scope, at);
+                self.begin(frame)?;
+            }
+            ItemKind::ScopeEnd => {
+                let frame = self.finish(at)?;
+                self.restore(&frame);
+            }
+            _ => self.bracket_item(item)?,
+        }
+        Ok(false)
+    }
+}
+
+/// A public routine, by the item that declares it.
+pub fn place_routine(
+    alloc: Global,
+    text: &[u8],
+    items: &[Item],
+    declared: &Declared,
+    index: usize,
+) -> Result<PlacedRoutine, Fault> {
+    let mut placer = Placer::new(alloc, text, items, declared);
+    let Some(head) = items.get(index).copied() else {
+        return Err(Fault::new(Why::NoRoutine, 0));
+    };
+    let entry = placer.begin_routine(index, &head)?;
+    for _ in 0..MOST_STEPS {
+        let Some(item) = items.get(placer.next).copied() else {
+            return Err(Fault::new(Why::NoEnd, head.at));
+        };
+        placer.next = placer.next.saturating_add(1);
+        if placer.item(&item)? {
+            return Ok(PlacedRoutine {
+                entry,
+                placed: placer.placed,
+            });
+        }
+    }
+    Err(Fault::new(Why::TooMany, head.at))
+}
