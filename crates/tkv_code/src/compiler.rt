@@ -1,0 +1,187 @@
+//! The compiler.
+
+ghost use Rattle.std.specs.Prelude.{◌≤◌, length, IfOk, IfErr};
+ghost use Rattle.geos_verify.specs.Rules.{Accepted};
+
+use crate::emitter::{Coded, code_of};
+use crate::skeleton::{skeleton, with_budgets};
+use crate::tidy::tidied;
+use geos_image::{Image, Routine, Row};
+use geos_infer::{FindError, find_image};
+use geos_verify::{Checked, Reject, check};
+use std::alloc::Global;
+use tkv_places::{Declared, declare, place_routine};
+use tkv_syntax::{Fault, Item, ItemKind, Why, name_at, parse_source};
+
+/// What a source is compiled to.
+#[derive(Drop)]
+pub struct Compiled {
+    /// The image, which the verifier accepted.
+    pub checked: Checked,
+    /// Of each instruction, where the source says it.
+    pub places: Vec<u32>,
+}
+
+/// The routines that are coded, and their instructions.
+#[derive(Drop)]
+struct Program {
+    routines: Vec<Routine>,
+    /// Where the source declares each.
+    heads: Vec<u32>,
+    code: Vec<Coded>,
+}
+
+/// What holds where a routine returns: what was lent is held still.
+fn exit_of(entry: &Row) -> Row {
+    Row {
+        slots: entry.slots,
+        ..Row::open()
+    }
+}
+
+impl Program {
+    /// Adds the instructions of a routine; how many there are.
+    fn append(&mut self, code: &[Coded], at: u32) -> Result<u16, Fault> {
+        let base = self.code.len();
+        if base + code.len() > 4_096 {
+            return Err(Fault::new(Why::TooMany, at));
+        }
+        for coded in code {
+            let mut moved = *coded;
+            if coded.leads {
+                moved.instr.target = moved.instr.target.saturating_add(base as u16);
+            }
+            self.code.push(moved)?;
+        }
+        Ok(code.len() as u16)
+    }
+
+    /// Adds a public routine.
+    fn add(
+        &mut self,
+        alloc: Global,
+        text: &[u8],
+        items: &[Item],
+        declared: &Declared,
+        index: usize,
+    ) -> Result<(), Fault> {
+        let at = items.get(index).map_or(0, |item| item.at);
+        let routine = place_routine(alloc, text, items, declared, index)?;
+        let code = tidied(alloc, code_of(alloc, &routine.placed)?)?;
+        let count = self.append(&code, at)?;
+        if self.routines.len() >= 32 {
+            return Err(Fault::new(Why::TooMany, at));
+        }
+        self.routines.push(Routine {
+            name: name_at(text, at),
+            public: true,
+            count,
+            budget: u32::MAX,
+            exit: exit_of(&routine.entry),
+            entry: routine.entry,
+        })?;
+        self.heads.push(at)?;
+        Ok(())
+    }
+}
+
+/// The routines of a source, coded.
+fn program_of(alloc: Global, text: &[u8]) -> Result<Program, Fault> {
+    let items = parse_source(alloc, text)?;
+    let declared = declare(alloc, text, &items)?;
+    let mut program = Program {
+        routines: Vec::new(alloc),
+        heads: Vec::new(alloc),
+        code: Vec::new(alloc),
+    };
+    for (index, item) in items.iter().enumerate() {
+        if item.kind == ItemKind::Fn && item.a % 2 == 1 {
+            program.add(alloc, text, &items, &declared, index)?;
+        }
+    }
+    if program.routines.is_empty() {
+        return Err(Fault::new(Why::NoRoutine, 0));
+    }
+    Ok(program)
+}
+
+/// The image of a program, with rows, numbers of steps and budgets.
+fn image_of(alloc: Global, program: &Program) -> Result<Image, Fault> {
+    let blank = match skeleton(alloc, &program.routines, &program.code)? {
+        Some(image) => image,
+        None => return Err(Fault::new(Why::TooMany, 0)),
+    };
+    let whole = match find_image(alloc, &blank) {
+        Ok(whole) => whole,
+        Err(FindError::Stopped(finding)) => {
+            let head = program.heads.get(usize::from(finding.routine));
+            let at = head.copied().unwrap_or(0);
+            // By a call, so that the check does not go over each table here.
+            drop(finding);
+            return Err(Fault::new(Why::NoSteps, at));
+        }
+        Err(FindError::Memory) => return Err(Fault::new(Why::Memory, 0)),
+    };
+    match with_budgets(alloc, whole)? {
+        Some(image) => Ok(image),
+        None => Err(Fault::new(Why::TooMany, 0)),
+    }
+}
+
+/// The fault of an instruction that the verifier refuses.
+fn refused(program: &Program, reject: Reject) -> Fault {
+    let at = program
+        .code
+        .get(usize::from(reject.pc))
+        .map_or(0, |coded| coded.at);
+    Fault {
+        number: reject.rule as u8 as u16,
+        ..Fault::new(Why::Refused, at)
+    }
+}
+
+/// The image of a source, or the first fault that is found.
+fn compile_or_fault(alloc: Global, text: &[u8]) -> Result<Compiled, Fault>
+    ensures { IfOk result (λ compiled. Accepted compiled.checked) }
+{
+    let program = program_of(alloc, text)?;
+    let image = image_of(alloc, &program)?;
+    let checked = match check(image) {
+        Ok(checked) => checked,
+        Err((image, reject)) => {
+            drop(image);
+            return Err(refused(&program, reject));
+        }
+    };
+    // For what `image` says of it: the verifier accepted it.
+    let _accepted = checked.image();
+    let mut places = Vec::new(alloc);
+    for coded in &program.code {
+        places.push(coded.at)?;
+    }
+    Ok(Compiled { checked, places })
+}
+
+/// The fault with a place that the source has.
+fn within(text: &[u8], fault: Fault) -> Fault
+    ensures { result.at ≤ length text.now }
+{
+    let most = text.len().min(4_294_967_295) as u32;
+    Fault {
+        at: fault.at.min(most),
+        ..fault
+    }
+}
+
+/// The image of a source, which the verifier accepts. Rows and numbers of steps are found as for an assembly text, and the verifier decides
+/// here: what it refuses is a fault at the place that the source says it. A fault's place is one of the source, or its end, so that
+/// `place_of` gives a line that the source has. `Why::Memory` may come at any source.
+pub fn compile(alloc: Global, text: &[u8]) -> Result<Compiled, Fault>
+    ensures accepted { IfOk result (λ compiled. Accepted compiled.checked) }
+    ensures place { IfErr result (λ fault. fault.at ≤ length text.now) }
+{
+    match compile_or_fault(alloc, text) {
+        Ok(compiled) => Ok(compiled),
+        Err(fault) => Err(within(text, fault)),
+    }
+}

@@ -1,0 +1,338 @@
+//! Instructions of a placed routine.
+
+use geos_image::Instr;
+use geos_opcodes::Opcode;
+use std::alloc::Global;
+use tkv_places::{Placed, PlacedKind};
+use tkv_syntax::{Fault, Why};
+
+/// An instruction, and where the source says it.
+#[derive(Clone, Copy)]
+pub(crate) struct Coded {
+    /// Its target is a label up to `Emitter::finish`, then a pc of the routine.
+    pub instr: Instr,
+    /// Whether it has a target.
+    pub leads: bool,
+    pub at: u32,
+}
+
+/// A place that instructions lead to.
+#[derive(Clone, Copy)]
+struct Label {
+    pc: u16,
+    used: bool,
+}
+
+/// What has begun and not ended.
+#[derive(Clone, Copy)]
+struct Open {
+    kind: PlacedKind,
+    instr: Instr,
+    /// The label of its end.
+    end: u16,
+    /// The label of a loop's first instruction, and of the one that counts.
+    head: u16,
+    test: u16,
+}
+
+/// One way out of a closing: what gives the lock back, and where control goes then.
+#[derive(Clone, Copy)]
+struct Rung {
+    /// The number of the closing, and of the block that is left to.
+    owner: u16,
+    level: u16,
+    /// The label of the rung.
+    label: u16,
+}
+
+/// A rung whose place is not chosen yet.
+#[derive(Clone, Copy)]
+struct Waiting {
+    label: u16,
+    instr: Instr,
+    to: u16,
+    at: u32,
+}
+
+/// A routine that is being coded.
+#[derive(Drop)]
+struct Emitter {
+    code: Vec<Coded>,
+    labels: Vec<Label>,
+    begun: Vec<Open>,
+    rungs: Vec<Rung>,
+    waiting: Vec<Waiting>,
+    /// Whether control comes to the next instruction.
+    reached: bool,
+}
+
+/// The most instructions and labels of a routine.
+const MOST: usize = 16_384;
+
+/// A jump, whose target is set elsewhere.
+fn jump() -> Instr {
+    Instr {
+        a: 0,
+        b: 0,
+        c: 0,
+        opcode: Opcode::Jmp,
+        d: 0,
+        imm: 0,
+        target: 0,
+    }
+}
+
+fn no_memory(at: u32) -> Fault {
+    Fault::new(Why::Memory, at)
+}
+
+impl Emitter {
+    fn label(&mut self, at: u32) -> Result<u16, Fault> {
+        let label = self.labels.len();
+        if label >= MOST {
+            return Err(Fault::new(Why::TooMany, at));
+        }
+        match self.labels.push(Label { pc: 0, used: false }) {
+            Ok(()) => Ok(label as u16),
+            Err(_) => Err(no_memory(at)),
+        }
+    }
+
+    /// Adds an instruction, if control comes to it.
+    fn emit(&mut self, instr: Instr, to: Option<u16>, at: u32) -> Result<(), Fault> {
+        if !self.reached {
+            return Ok(());
+        }
+        if self.code.len() >= MOST {
+            return Err(Fault::new(Why::TooMany, at));
+        }
+        let target = match to {
+            Some(label) => {
+                if let Some(there) = self.labels.get_mut(usize::from(label)) {
+                    there.used = true;
+                }
+                label
+            }
+            None => instr.target,
+        };
+        self.reached = !matches!(instr.opcode, Opcode::Jmp | Opcode::Ret);
+        match self.code.push(Coded {
+            instr: Instr { target, ..instr },
+            leads: to.is_some(),
+            at,
+        }) {
+            Ok(()) => Ok(()),
+            Err(_) => Err(no_memory(at)),
+        }
+    }
+
+    /// The label stands before the next instruction.
+    fn set_here(&mut self, label: u16) {
+        let pc = self.code.len().min(65_535) as u16;
+        if let Some(there) = self.labels.get_mut(usize::from(label)) {
+            there.pc = pc;
+            if there.used {
+                self.reached = true;
+            }
+        }
+    }
+
+    /// All rungs that wait stand here, where control does not come.
+    fn put_waiting(&mut self) -> Result<(), Fault> {
+        for _ in 0..self.waiting.len() {
+            let Some(rung) = self.waiting.pop() else {
+                break;
+            };
+            self.set_here(rung.label);
+            self.emit(rung.instr, None, rung.at)?;
+            self.emit(jump(), Some(rung.to), rung.at)?;
+        }
+        Ok(())
+    }
+
+    /// The label stands here, and in front of it the rungs that lead to it.
+    fn put_label(&mut self, label: u16, at: u32) -> Result<(), Fault> {
+        let awaited = self.waiting.iter().any(|rung| rung.to == label);
+        if awaited {
+            self.emit(jump(), Some(label), at)?;
+            self.put_waiting()?;
+        }
+        self.set_here(label);
+        Ok(())
+    }
+
+    /// The rung of a closing by which control leaves to a block.
+    fn rung(&mut self, owner: u16, level: u16, at: u32) -> Result<u16, Fault> {
+        for rung in &self.rungs {
+            if rung.owner == owner && rung.level == level {
+                return Ok(rung.label);
+            }
+        }
+        let label = self.label(at)?;
+        match self.rungs.push(Rung {
+            owner,
+            level,
+            label,
+        }) {
+            Ok(()) => Ok(label),
+            Err(_) => Err(no_memory(at)),
+        }
+    }
+
+    /// The label by which control leaves to the end of a block: that of a rung, if a closing is on the way.
+    fn way(&mut self, level: u16, at: u32) -> Result<u16, Fault> {
+        let count = self.begun.len();
+        for k in 0..count {
+            let index = count - 1 - k;
+            let Some(open) = self.begun.get(index).copied() else {
+                break;
+            };
+            if index == usize::from(level) {
+                return Ok(open.end);
+            }
+            if open.kind == PlacedKind::Closing && index < MOST {
+                return self.rung(index as u16, level, at);
+            }
+        }
+        Err(Fault::new(Why::Unreached, at))
+    }
+
+    fn begin(&mut self, placed: &Placed) -> Result<(), Fault> {
+        let at = placed.at;
+        let end = self.label(at)?;
+        let head = self.label(at)?;
+        let test = self.label(at)?;
+        match self.begun.push(Open {
+            kind: placed.kind,
+            instr: placed.instr,
+            end,
+            head,
+            test,
+        }) {
+            Ok(()) => {}
+            Err(_) => return Err(no_memory(at)),
+        }
+        if placed.kind == PlacedKind::Count {
+            self.emit(jump(), Some(test), at)?;
+            // The instruction that counts leads here.
+            self.reached = true;
+        }
+        self.set_here(head);
+        Ok(())
+    }
+
+    /// Takes a rung of a closing away, if one is left.
+    fn take_rung(&mut self, owner: u16) -> Option<Rung> {
+        let place = self.rungs.iter().position(|rung| rung.owner == owner);
+        match place {
+            Some(k) => {
+                if k < self.rungs.len() {
+                    return Some(self.rungs.swap_remove(k));
+                }
+                None
+            }
+            None => None,
+        }
+    }
+
+    /// The rungs of a closing that has ended wait for a place.
+    fn let_wait(&mut self, owner: u16, instr: Instr, at: u32) -> Result<(), Fault> {
+        for _ in 0..self.rungs.len() {
+            let Some(rung) = self.take_rung(owner) else {
+                break;
+            };
+            let to = self.way(rung.level, at)?;
+            match self.waiting.push(Waiting {
+                label: rung.label,
+                instr,
+                to,
+                at,
+            }) {
+                Ok(()) => {}
+                Err(_) => return Err(no_memory(at)),
+            }
+        }
+        Ok(())
+    }
+
+    fn end(&mut self, placed: &Placed) -> Result<(), Fault> {
+        let at = placed.at;
+        let Some(open) = self.begun.pop() else {
+            return Err(Fault::new(Why::Unreached, at));
+        };
+        match open.kind {
+            PlacedKind::Closing => {
+                self.emit(open.instr, None, at)?;
+                let owner = self.begun.len().min(65_535) as u16;
+                self.let_wait(owner, open.instr, at)
+            }
+            PlacedKind::Loop | PlacedKind::Count => {
+                self.put_label(open.test, at)?;
+                if placed.to != 0 {
+                    self.emit(open.instr, Some(open.head), at)?;
+                }
+                Ok(())
+            }
+            _ => self.put_label(open.end, at),
+        }
+    }
+
+    fn take(&mut self, placed: &Placed) -> Result<(), Fault> {
+        match placed.kind {
+            PlacedKind::Do => {
+                if placed.to == u16::MAX {
+                    return self.emit(placed.instr, None, placed.at);
+                }
+                let to = self.way(placed.to, placed.at)?;
+                self.emit(placed.instr, Some(to), placed.at)
+            }
+            PlacedKind::Leave => {
+                let to = self.way(placed.to, placed.at)?;
+                self.emit(jump(), Some(to), placed.at)
+            }
+            PlacedKind::End => self.end(placed),
+            _ => self.begin(placed),
+        }
+    }
+
+    /// Each label becomes its pc.
+    fn finish(self) -> Vec<Coded> {
+        let Emitter {
+            mut code,
+            labels,
+            begun: _,
+            rungs: _,
+            waiting: _,
+            reached: _,
+        } = self;
+        aim(&mut code, &labels);
+        code
+    }
+}
+
+/// The targets become pcs.
+fn aim(code: &mut [Coded], labels: &[Label]) {
+    for k in 0..code.len() {
+        if code[k].leads
+            && let Some(label) = labels.get(usize::from(code[k].instr.target))
+        {
+            code[k].instr.target = label.pc;
+        }
+    }
+}
+
+/// The instructions of a placed routine, with pcs of the routine as targets.
+pub(crate) fn code_of(alloc: Global, placed: &[Placed]) -> Result<Vec<Coded>, Fault> {
+    let mut emitter = Emitter {
+        code: Vec::new(alloc),
+        labels: Vec::new(alloc),
+        begun: Vec::new(alloc),
+        rungs: Vec::new(alloc),
+        waiting: Vec::new(alloc),
+        reached: true,
+    };
+    for item in placed {
+        emitter.take(item)?;
+    }
+    Ok(emitter.finish())
+}

@@ -1,0 +1,16 @@
+//! The compiler of the structured language: sources to images that the verifier accepts.
+//!
+//! docs/LANGUAGE.md says what sources mean.
+#![tactic(auto)]
+
+mod compiler;
+mod emitter;
+mod lines;
+mod sentence;
+mod skeleton;
+mod tidy;
+
+pub use compiler::{Compiled, compile};
+pub use lines::lines_of;
+pub use sentence::put_sentence;
+pub use tkv_syntax::{Fault, Place, Why, place_of};

@@ -1,0 +1,89 @@
+//! Images of code: one to find rows and numbers of steps for, and the one with its budgets.
+
+ghost use Rattle.std.specs.Prelude.{◌≤◌, length};
+
+use crate::emitter::Coded;
+use geos_image::{
+    Image, MOST_INSTRS, MOST_ROUTINES, Point, Potential, Routine, Row, Whole, keys_of,
+};
+use std::alloc::{AllocError, Global};
+
+/// How many places are to have a row.
+fn key_count(routines: &[Routine], points: &[Point]) -> usize
+    requires few { length routines.now ≤ MOST_ROUTINES }
+    requires short { length points.now ≤ MOST_INSTRS }
+{
+    let mut count = 0;
+    for (k, flag) in keys_of(routines, points).iter().enumerate() {
+        if *flag && k < points.len() && count < points.len() {
+            count += 1;
+        }
+    }
+    count
+}
+
+/// The image of code, with the open row at its key places and no potential; `None` if it is none that the format allows.
+pub(crate) fn skeleton(
+    alloc: Global,
+    routines: &[Routine],
+    code: &[Coded],
+) -> Result<Option<Image>, AllocError> {
+    let mut points = Vec::new(alloc);
+    for coded in code {
+        points.push(Point {
+            instr: coded.instr,
+            row: None,
+            potential: Potential {
+                constant: 0,
+                coefficients: [0; 4],
+            },
+        })?;
+    }
+    let mut named = Vec::new(alloc);
+    for routine in routines {
+        named.push(*routine)?;
+    }
+    if named.len() > usize::from(MOST_ROUTINES) || points.len() > usize::from(MOST_INSTRS) {
+        return Ok(None);
+    }
+    let mut rows = Vec::new(alloc);
+    for _ in 0..key_count(&named, &points) {
+        rows.push(Row::open())?;
+    }
+    Ok(Image::with_keys(named, points, rows))
+}
+
+/// The routines of an image, each with the steps that it was found to take as its budget.
+fn budgeted(alloc: Global, image: &Image) -> Result<Vec<Routine>, AllocError> {
+    let mut routines = Vec::new(alloc);
+    for r in 0..image.count() {
+        let pc = image.start(r);
+        let budget = image
+            .points()
+            .get(usize::from(pc))
+            .map_or(0, |point| point.potential.constant);
+        routines.push(Routine {
+            budget,
+            ..*image.routine(r)
+        })?;
+    }
+    Ok(routines)
+}
+
+/// The image of version 2 of what was found, with the least budgets; `None` if it is none that the format allows.
+pub(crate) fn with_budgets(alloc: Global, whole: Whole) -> Result<Option<Image>, AllocError> {
+    let image = whole.into_keyed();
+    let routines = budgeted(alloc, &image)?;
+    let mut points = Vec::new(alloc);
+    let mut rows = Vec::new(alloc);
+    for point in image.points() {
+        points.push(Point {
+            row: None,
+            ..*point
+        })?;
+        if let Some(row) = point.row {
+            rows.push(row)?;
+        }
+    }
+    Ok(Image::with_keys(routines, points, rows))
+}
