@@ -1,11 +1,12 @@
 //! Texts whose routines have the least budgets.
 
-ghost use Rattle.std.specs.Prelude.{◌≡◌, ◌<◌, ◌≤◌, ◌++◌, ◌∷◌, ◌==◌, true, List, ℕ, length, position, IfOk, IfErr, IfSome, OnOk};
+ghost use Rattle.std.specs.Prelude.{◌≡◌, ◌⊎◌, ◌<◌, ◌≤◌, ◌++◌, ◌∷◌, ◌==◌, true, List, ℕ, length, position, IfOk, IfErr, IfSome, OnOk};
 ghost use Rattle.geos_text.specs.Words.{words};
+ghost use Rattle.geos_asm.specs.Assembling.{IsAssembled};
 ghost use Rattle.geos_asm.specs.Budgets.{begins_word, ends_word, whole_lines, is_budget, is_header};
 ghost use Rattle.geos_asm.specs.Budgets.{IsCutRound, IsLineAlike, HasOtherBudgets, IsBudgeted, IsWhyNoBudgets};
 
-use crate::assembler::assemble_with_lines;
+use crate::assembler::{Assembled, assemble_with_lines};
 use crate::calls::{first_calling_on, line_of};
 use crate::error::BudgetError;
 use crate::least::budgets_in_order;
@@ -172,17 +173,26 @@ fn constants(alloc: Global, image: &Image) -> Result<Vec<u32>, AllocError> {
     Ok(constants)
 }
 
-/// A text with other budgets, which has an image.
+/// A text with other budgets, and its image.
+#[derive(Drop)]
+pub struct Budgeted {
+    /// The text.
+    pub text: Vec<u8>,
+    /// Its image, with the line of each instruction.
+    pub made: Assembled,
+}
+
+/// A text with other budgets, and those that are found for its image.
 #[derive(Drop)]
 struct Draft {
-    text: Vec<u8>,
-    /// The budgets that are found for it.
+    budgeted: Budgeted,
     found: Vec<u32>,
 }
 
 /// The text with these budgets, and those that are found for it.
 fn drafted(alloc: Global, text: &[u8], budgets: &[u32]) -> Result<Draft, BudgetError>
-    ensures budgeted { IfOk result (λ draft. IsBudgeted text.now draft.text.items) }
+    ensures budgeted { IfOk result (λ draft. IsBudgeted text.now draft.budgeted.text.items) }
+    ensures image { IfOk result (λ draft. IsAssembled draft.budgeted.text.items draft.budgeted.made.image) }
     ensures fault { IfErr result (IsWhyNoBudgets text.now) }
 {
     let new = with_budgets(alloc, text, budgets)?;
@@ -194,7 +204,8 @@ fn drafted(alloc: Global, text: &[u8], budgets: &[u32]) -> Result<Draft, BudgetE
         return Err(BudgetError::NotSet(counter, line_of(&made.lines, pc)));
     }
     let found = constants(alloc, &made.image)?;
-    Ok(Draft { text: new, found })
+    let budgeted = Budgeted { text: new, made };
+    Ok(Draft { budgeted, found })
 }
 
 /// The budgets to begin with: mostly the ones that are found for the text with them. What is answered does not rest on that.
@@ -208,10 +219,31 @@ fn first_budgets(alloc: Global, text: &[u8]) -> Vec<u32> {
     }
 }
 
+/// The text with the least budget that is found for each routine in the place of its own, and its image. What is found for a routine depends
+/// on the budgets of the routines that it calls, so they are found in the order of the routines. If those that are found for the whole
+/// text differ, rounds follow, each of which finds one more on a chain of calls. The faults are those of `with_least_budgets`.
+pub fn find_budgets(alloc: Global, text: &[u8]) -> Result<Budgeted, BudgetError>
+    ensures budgeted { IfOk result (λ new. IsBudgeted text.now new.text.items) }
+    ensures image { IfOk result (λ new. IsAssembled new.text.items new.made.image) }
+    ensures fault { IfErr result (IsWhyNoBudgets text.now) }
+{
+    let first = first_budgets(alloc, text);
+    let mut draft = drafted(alloc, text, &first)?;
+    if draft.found == first {
+        return Ok(draft.budgeted);
+    }
+    for _ in 0..MOST_ROUTINES {
+        let next = drafted(alloc, text, &draft.found)?;
+        if next.found == draft.found {
+            return Ok(next.budgeted);
+        }
+        draft = next;
+    }
+    Ok(draft.budgeted)
+}
+
 /// The text with the least budget that is found for each routine in the place of its own: the constant of the potential at its first
-/// instruction. A `?` may stand for a budget. All other bytes stay. What is found for a routine depends on the budgets of those that it
-/// calls, so they are found in the order of the routines. If those that are found for the whole text differ, rounds follow, each of which
-/// finds one more on a chain of calls.
+/// instruction. A `?` may stand for a budget. All other bytes stay.
 ///
 /// The faults are those of `assemble`, of the text with other budgets; or `CallsOn`, with the line of the first CALL of a routine that does
 /// not stand before its own; or `NotSet`, with that of a LOOP which takes from a counter that nothing sets on a way to it.
@@ -219,17 +251,40 @@ pub fn with_least_budgets(alloc: Global, text: &[u8]) -> Result<Vec<u8>, BudgetE
     ensures budgeted { IfOk result (λ new. IsBudgeted text.now new.items) }
     ensures fault { IfErr result (IsWhyNoBudgets text.now) }
 {
-    let first = first_budgets(alloc, text);
-    let mut draft = drafted(alloc, text, &first)?;
-    if draft.found == first {
-        return Ok(draft.text);
+    Ok(find_budgets(alloc, text)?.text)
+}
+
+/// Whether a line begins a routine whose budget is a `?`.
+fn leaves_budget(line: &[u8]) -> bool {
+    match cut(line) {
+        Some((_front, budget, _behind)) => budget == b"?".as_slice(),
+        None => false,
     }
-    for _ in 0..MOST_ROUTINES {
-        let next = drafted(alloc, text, &draft.found)?;
-        if next.found == draft.found {
-            return Ok(next.text);
+}
+
+/// Whether a text is a draft: a routine's budget is a `?`.
+fn is_draft(text: &[u8]) -> bool {
+    let mut rest = text;
+    while !rest.is_empty() {
+        let (line, behind) = first_whole_line(rest);
+        if leaves_budget(line) {
+            return true;
         }
-        draft = next;
+        rest = behind;
     }
-    Ok(draft.text)
+    false
+}
+
+/// A draft, in which a `?` stands for the budget of a routine, with the least budgets; or with budgets of 0 if the text has no least ones. Any
+/// other text stays as it is.
+pub fn completed(alloc: Global, text: Vec<u8>) -> Result<Vec<u8>, AllocError>
+    ensures { IfOk result (λ new. (new.items ≡ text.items) ⊎ HasOtherBudgets text.items new.items) }
+{
+    if !is_draft(&text) {
+        return Ok(text);
+    }
+    match find_budgets(alloc, &text) {
+        Ok(new) => Ok(new.text),
+        Err(_) => with_budgets(alloc, &text, &[]),
+    }
 }

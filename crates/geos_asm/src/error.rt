@@ -16,7 +16,7 @@ pub enum AssembleError {
     #[error("{0}")]
     BadLine(BadLine),
     /// The text has no fault. In the routine that begins at this line slots differ in more than
-    /// marks where ways of control meet, or no potential was found for it.
+    /// marks where paths meet, or no potential was found for it.
     #[error("no rows: line {0}")]
     NoRows(usize),
     /// An allocation was refused.
@@ -49,12 +49,12 @@ pub enum BudgetError {
     /// It is not assembled.
     #[error("{0}")]
     Assemble(AssembleError),
-    /// The CALL on this line names a routine that does not stand before its own. The verifier refuses it, whatever the budgets are.
-    #[error("no budget: the CALL on line {0} names a routine that does not stand before its own")]
+    /// The CALL on this line names a routine that does not come before its own. The verifier refuses it, whatever the budgets are.
+    #[error("no budget: the CALL on line {0} names no earlier routine: move the routine before it, or use a loop")]
     CallsOn(u32),
-    /// Nothing sets this counter on a way to the LOOP on this line, for which steps are owed where its routine begins. The verifier refuses
+    /// Nothing sets this counter on a path to the LOOP on this line, for which steps are owed where its routine begins. The verifier refuses
     /// that, whatever the budgets are.
-    #[error("no budget: k{0} is not set on the way to the LOOP on line {1}: set it first by SETK or SETKW")]
+    #[error("no budget: k{0} is not set on a path to the LOOP on line {1}: set it first by SETK or SETKW")]
     NotSet(u8, u32),
 }
 

@@ -158,7 +158,7 @@ fn budgets_with_rows(alloc: Global, image: &Image) -> Result<Vec<u32>, AllocErro
 }
 
 /// The least budgets that are found for the routines of a text, in their order: each routine calls only those before it. Fewer if no rows
-/// or no steps are found for a routine, and none if the text has a fault, or a CALL of a routine that does not stand before its own.
+/// or no steps are found for a routine, and none if the text has a fault, or a CALL of a routine that does not come before its own.
 pub(crate) fn budgets_in_order(alloc: Global, text: &[u8]) -> Result<Vec<u32>, AllocError> {
     let Ok(parsed) = parse(alloc, text) else {
         return Ok(Vec::new(alloc));

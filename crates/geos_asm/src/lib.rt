@@ -12,7 +12,7 @@ mod least;
 mod unset;
 
 pub use assembler::{Assembled, assemble, assemble_all_rows, assemble_with_lines};
-pub use budgets::with_least_budgets;
+pub use budgets::{Budgeted, completed, find_budgets, with_least_budgets};
 pub use cause::{Unassembled, assemble_or_tell};
 pub use error::{AssembleError, BudgetError};
 pub use geos_source::{BadLine, Parsed, Why};

@@ -16,6 +16,9 @@ returns-in_err-made-clause-fault c =
 pub returns-in_err-found-clause-fault : goal.returns-in_err-found-clause-fault
 returns-in_err-found-clause-fault c = memory-fault c.args.text.now _ c.from_residual-in_err-found.ensures.1
 
+pub returns-clause-image : goal.returns-clause-image
+returns-clause-image c = subst (λ bytes. IsAssembled bytes c.in_ok-made.made.image) c.deref.ensures.value c.in_ok-made.ensures.image
+
 pub returns-clause-budgeted : goal.returns-clause-budgeted
 returns-clause-budgeted c = (
   c.in_ok-new.ensures,
