@@ -1,6 +1,6 @@
 -- Which slots are held that must not be, at a return or where the VM file is written.
 use Rattle.std.specs.Prelude.{ℕ, Bool, ◌&&◌, not}
-use Rattle.geos_explain.specs.Below.{list_any, Row, is_own, is_empty, slot_state, is_of_file}
+use Rattle.geos_explain.specs.Below.{is_empty, slot_state, is_of_file}
 use Rattle.geos_explain.specs.Places.{Place}
 use Rattle.geos_explain.specs.declared.held.HeldAt.{HeldAt}
 use Rattle.geos_explain.specs.declared.held.HeldAt.TheVariants.{Return, Write}
@@ -9,7 +9,3 @@ use Rattle.geos_explain.specs.declared.held.HeldAt.TheVariants.{Return, Write}
 abbrev pub is_held_at : HeldAt → Place → ℕ → Bool
 is_held_at Return place a = not (is_empty (slot_state place.row a)) && is_empty (slot_state place.routine.exit a)
 is_held_at Write place a = is_of_file (slot_state place.row a)
-
--- some slot is borrowed
-abbrev pub has_borrowed : Row → Bool
-has_borrowed row = list_any (λ state. not (is_own state)) row.slots

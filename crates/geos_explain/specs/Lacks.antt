@@ -1,6 +1,6 @@
--- What a row lacks to fit another, and whether a mark or a comparison helps.
+-- What a row lacks to fit another.
 use Rattle.std.specs.Prelude.{◌≡◌, ◌<◌, ◌≤◌, ◌↔◌, ℕ, Bool, true, false, ◌&&◌, not, nat_le, if◌then◌else◌, Option, None}
-use Rattle.geos_explain.specs.Below.{Row, open_row, Pointer, SlotState, Empty, is_shaped, zip2, bound, slot_fits, pointer_fits, pair_fits, fits, is_empty, marked_state, slot_state, are_alike}
+use Rattle.geos_explain.specs.Below.{Row, open_row, Pointer, SlotState, Empty, is_shaped, zip2, bound, slot_fits, pointer_fits, pair_fits, fits, is_empty, slot_state}
 
 -- a bound that is wanted and not kept, else any word's
 abbrev pub lacking_bound : ℕ → ℕ → ℕ
@@ -41,11 +41,3 @@ abbrev pub LacksNothingWhereItFits : Type 0
 LacksNothingWhereItFits =
     (known wanted : Row) → is_shaped known ≡ true → is_shaped wanted ≡ true → ((a : ℕ) → bound known a ≤ 65535)
     → LacksNothing known wanted ↔ (fits known wanted ≡ true)
-
--- of what is wanted of a slot, the mark alone is lacking
-abbrev pub lacks_mark : SlotState → SlotState → Bool
-lacks_mark known wanted = not (slot_fits known wanted) && slot_fits (marked_state known) wanted
-
--- two slots hold blocks of one kind, as a comparison wants
-abbrev pub may_compare : SlotState → SlotState → Bool
-may_compare state other = not (is_empty state) && are_alike state other

@@ -3,7 +3,6 @@ pub mod Public
 pub mod Led
 pub mod Standing
 pub mod Places
-pub mod Notes
 pub mod Lacks
 pub mod Uses
 pub mod Ways
@@ -12,8 +11,6 @@ pub mod Since
 pub mod Held
 pub mod Stale
 pub mod Forgotten
-pub mod Calls
-pub mod Steps
 pub mod Budgets
 pub mod Told
 pub mod Repeated

@@ -83,9 +83,8 @@ abbrev pub makes_stale : Parts → ℕ → Edge → Instr → Row → Bool
 makes_stale image p edge i row =
     has_edge i edge.branch && not (is_stale (pointer_at row p)) && is_stale (pointer_at (after image edge.from row edge.branch) p)
 
--- an instruction loses a pointer on one of its edges: it is a call, or was to set it and was refused, or makes it stale
+-- an instruction loses a pointer on one of its edges: it was to set it and was refused, or makes it stale
 abbrev pub loses : Parts → Followed → Edge → KnownPlace → Bool
 loses image followed edge point =
-    forgets point.instr.opcode
-    || (edge.branch && sets point.instr (uses_of point.instr.opcode).pointer followed.p)
+    (edge.branch && sets point.instr (uses_of point.instr.opcode).pointer followed.p)
     || makes_stale image followed.p edge point.instr (with_hint point.row followed)

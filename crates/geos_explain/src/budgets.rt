@@ -9,13 +9,12 @@ ghost use Rattle.geos_explain.specs.Budgets.{IsTakenUnset, WhatIsSaidOfCountersH
 ghost use Rattle.geos_explain.specs.Budgets.{WhatIsSaidOfBudgetsHolds, sets_to_any, sets_to_any_at, setting_to_any, IsSetToAny};
 ghost use Rattle.geos_explain.specs.Budgets.{WhatIsSaidOfWordsHolds};
 
-use crate::Done;
 use crate::filled::Filled;
 use crate::led::led_from;
 use crate::notes::{put_budget, put_budget_wish};
-use crate::numbers::pc_part;
 use crate::place::Place;
 use crate::routines::{first_or, is_inside};
+use crate::saying::Saying;
 use geos_flow::{Counting, Edge, Heading, Marks, is_marked};
 use geos_image::{Instr, Row};
 use geos_opcodes::CounterUse;
@@ -126,34 +125,23 @@ fn unset_loop(place: &Place, k: u8) -> Option<u16>
 }
 
 /// The counter is not set on the way to the instruction at a pc that takes from it.
-fn put_unset_loop(out: &mut Vec<u8>, place: &Place, k: u8, pc: u16) -> Done
+fn put_unset_loop(out: &mut Saying, place: &Place, k: u8, pc: u16)
     requires { IsTakenUnset (place_of place.now) k pc }
 {
-    put!(out;
-        "; k" {k} " is not set on the way to LOOP at" (pc_part(place.lines, pc))
-        ": set it first by SETK or SETKW"
-    )
+    put!(out; "; k" {k} " is not set on a path to LOOP at" at(pc) ": set it first by SETK or SETKW")
 }
 
 /// The same of a counter that still pays at a place, where there is such an instruction.
-fn put_unset_item(out: &mut Vec<u8>, place: &Place, k: u8) -> Done
+fn put_unset_item(out: &mut Saying, place: &Place, k: u8)
     requires { k < 4 }
 {
     if !pays_at(place.image, k, place.pc) {
-        return Ok(());
+        return;
     }
     match unset_loop(place, k) {
         Some(pc) => put_unset_loop(out, place, k, pc),
-        None => Ok(()),
+        None => {}
     }
-}
-
-/// The same of each counter.
-pub(crate) fn put_unset_items(out: &mut Vec<u8>, place: &Place) -> Done {
-    for k in 0..4 {
-        put_unset_item(out, place, k)?;
-    }
-    Ok(())
 }
 
 /// A law: an instruction that is named takes from the counter, and a way leads to it from the place on which no instruction
@@ -188,17 +176,14 @@ fn calling_on(place: &Place) -> Option<u16>
 }
 
 /// No budget serves because of the call at a pc.
-fn put_never_served(out: &mut Vec<u8>, place: &Place, from: u16) -> Done
+fn put_never_served(out: &mut Saying, place: &Place, from: u16)
     requires { IsNeverServed (place_of place.now) from }
 {
-    put!(out;
-        ": no budget serves while CALL at" (pc_part(place.lines, from))
-        " names a routine that does not stand before this one"
-    )
+    put!(out; ": no budget is enough, since CALL at" at(from) " names no earlier routine")
 }
 
 /// Which budget serves: none where there is such a call, else the least that the potential is within.
-fn put_serving(out: &mut Vec<u8>, place: &Place) -> Done {
+fn put_serving(out: &mut Saying, place: &Place) {
     match calling_on(place) {
         Some(from) => put_never_served(out, place, from),
         None => put_budget_wish(out, place.potential),
@@ -244,23 +229,23 @@ fn setting_to_any(place: &Place) -> Option<u16>
 }
 
 /// What helps there.
-fn put_any(out: &mut Vec<u8>, place: &Place, from: u16) -> Done
+fn put_any(out: &mut Saying, place: &Place, from: u16)
     requires { IsSetToAny (place_of place.now) from }
 {
     match place.image.point(from) {
         Some(point) => put!(out;
-            "; w" {point.instr.b} " may be 65535 at" (pc_part(place.lines, from))
-            ", which sets k" {point.instr.a} ": CHK it by a lower number"
+            "; w" {point.instr.b} " may be 65535 at" at(from) ", which sets k" {point.instr.a}
+            ": bound it by CHK before that"
         ),
-        None => Ok(()),
+        None => {}
     }
 }
 
 /// The same, if there is such an instruction.
-fn put_any_item(out: &mut Vec<u8>, place: &Place) -> Done {
+fn put_any_item(out: &mut Saying, place: &Place) {
     match setting_to_any(place) {
         Some(from) => put_any(out, place, from),
-        None => Ok(()),
+        None => {}
     }
 }
 
@@ -270,10 +255,12 @@ pub fn what_is_said_of_words_holds()
 {}
 
 /// The potential is above the budget, which budget serves, which counters are never set, and which is set to a word that may be any.
-pub(crate) fn put_over(out: &mut Vec<u8>, place: &Place) -> Done {
-    put_budget(out, place.routine, place.potential)?;
-    put_serving(out, place)?;
-    put_unset_items(out, place)?;
+pub(crate) fn put_over(out: &mut Saying, place: &Place) {
+    put_budget(out, place.routine, place.potential);
+    put_serving(out, place);
+    for k in 0..4 {
+        put_unset_item(out, place, k);
+    }
     put_any_item(out, place)
 }
 

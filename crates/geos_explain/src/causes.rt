@@ -1,108 +1,110 @@
 //! Why no rows or no numbers of steps are found, in an author's words.
 
-ghost use Rattle.std.specs.Prelude.{◌≡◌, ◌<◌, length, IfSome};
+ghost use Rattle.std.specs.Prelude.{◌≡◌};
 ghost use Rattle.geos_explain.specs.Causes.{is_refusable};
 
-use crate::Done;
-use crate::numbers::pc_part;
+use crate::saying::{Part, Saying, either};
 use geos_causes::{
-    Apart, BackWay, ByNumber, ByWord, Cause, Coming, Emptied, LoopOn, LoopPair, LoopRing, Within,
-    slots_agree,
+    Apart, BackWay, Cause, Coming, Emptied, LoopOn, LoopPair, LoopRing, Within, slots_agree,
 };
-use geos_flow::Edge;
 use geos_image::{Instr, SlotState};
-use geos_listing::state_word;
-use geos_text::Part;
-use geos_verify::is_empty;
+use geos_opcodes::SlotUse;
+use geos_verify::{calls, falls_through, is_empty};
 use std::alloc::{AllocError, Global};
 
-/// Where the text of a padded name ends, if zeros follow it.
-fn text_end(name: &[u8]) -> Option<usize>
-    ensures { IfSome result (λ end. end < length name.now) }
-{
-    name.iter().position(|byte| *byte == 0)
-}
+/// Where a counter is set or touched.
+const WITHIN: &str = ", within its own loop:";
 
-/// A routine's name without the zeros behind it.
+/// A routine's name without the zeros after it.
 fn name_text(name: &[u8; 16]) -> &[u8] {
-    let end = text_end(name).unwrap_or(16);
-    &name[..end]
+    for end in 0..name.len() {
+        if name[end] == 0 {
+            return &name[..end];
+        }
+    }
+    name
 }
 
-/// A CALL leaves a slot empty, and is of a routine that does not stand before its own.
-fn put_later(out: &mut Vec<u8>, lines: &[u32], a: usize, emptied: &Emptied) -> Done {
-    put!(out;
-        "; CALL at" (pc_part(lines, emptied.at)) " leaves s" {a} " empty: "
-        bytes(name_text(&emptied.callee)) " does not stand before this routine"
-    )
-}
-
-/// A CALL leaves a slot empty: that it is held is to be said in the lines of its routine, or, where that locks a block into the
-/// slot, another is to be taken.
-fn put_unsaid(out: &mut Vec<u8>, lines: &[u32], a: usize, emptied: &Emptied) -> Done {
+/// A CALL requires a slot empty that has a block, and leaves it empty.
+fn put_unsaid(out: &mut Saying, a: u8, emptied: &Emptied) {
     let name = name_text(&emptied.callee);
     put!(out;
-        "; CALL at" (pc_part(lines, emptied.at)) " leaves what the out line of " bytes(name)
-        " says: say s" {a} "=" [state_word(emptied.state)] " in the in and out lines of "
-        bytes(name) "; where " bytes(name) " locks a block into s" {a}
-        " itself, hold the block in another slot"
+        "; CALL at" at(emptied.at) " requires that s" {a} " is empty, and leaves it so: unlock s" {a}
+        " before the CALL; or, if " name(name) " is private, does not write the file and locks nothing into s" {a}
+        ", say" slot(a, emptied.state) " in the in and out lines of " name(name)
     )
 }
 
-/// What is to be said of a CALL that leaves a slot empty.
-fn put_emptied(out: &mut Vec<u8>, lines: &[u32], a: usize, emptied: &Emptied) -> Done {
-    if emptied.stands_before {
-        put_unsaid(out, lines, a, emptied)
+/// A CALL of a later routine leaves a slot empty.
+fn put_later(out: &mut Saying, a: u8, emptied: &Emptied) {
+    put!(out;
+        "; CALL at" at(emptied.at) " leaves s" {a} " empty: " name(name_text(&emptied.callee))
+        " comes after this routine, so move it before this one"
+    )
+}
+
+/// The last CALL before a pc, or there, after which no instruction locks or unlocks the slot, or goes elsewhere.
+fn last_call(instrs: &[Instr], from: u16, a: u8) -> Option<u16> {
+    let mut found = None;
+    for n in 0..u32::from(from) + 1 {
+        let pc = n as u16;
+        if let Some(i) = instrs.get(usize::from(pc)) {
+            match i.opcode.uses().slot {
+                SlotUse::LocksNew(_) | SlotUse::Locks(_) | SlotUse::Unlocks(_) if i.a == a =>
+                    found = None,
+                _ if calls(i.opcode) => found = Some(pc),
+                _ if !falls_through(i.opcode) => found = None,
+                _ => {}
+            }
+        }
+    }
+    found
+}
+
+/// A CALL left a slot as the `out` line of its routine says, which is to have what it has on another way.
+fn put_left(out: &mut Saying, a: u8, call: u16, other: SlotState) {
+    let (cure, state) = if is_empty(other) {
+        ("unlock it after the CALL", Part::Text(""))
     } else {
-        put_later(out, lines, a, emptied)
+        ("let the in and out lines there say", Part::Slot(a, other))
+    };
+    put!(out; "; CALL at" at(call) " leaves in s" {a} " what the out line of its routine says: " [cure] (state))
+}
+
+/// The CALL that left a slot as it is where control comes so, and what helps, if one is named or comes last. Whether one is.
+fn put_call(out: &mut Saying, instrs: &[Instr], a: u8, coming: &Coming, other: SlotState) -> bool {
+    match coming.emptied.get(usize::from(a)) {
+        Some(Some(emptied)) if slots_agree(emptied.state, other) => {
+            if emptied.stands_before {
+                put_unsaid(out, a, emptied)
+            } else {
+                put_later(out, a, emptied)
+            }
+            true
+        }
+        _ => match coming.from {
+            Some(edge) => match last_call(instrs, edge.from, a) {
+                Some(call) => {
+                    put_left(out, a, call, other);
+                    true
+                }
+                None => false,
+            },
+            None => false,
+        },
     }
 }
 
-/// The same, where what the slot held agrees with what it holds on the other way.
-fn put_emptied_item(
-    out: &mut Vec<u8>,
-    lines: &[u32],
-    a: usize,
-    named: Option<Emptied>,
-    other: SlotState,
-) -> Done {
-    match named {
-        Some(emptied) if slots_agree(emptied.state, other) => put_emptied(out, lines, a, &emptied),
-        _ => Ok(()),
+/// The same of each slot that differs.
+fn put_calls(out: &mut Saying, instrs: &[Instr], coming: &Coming, other: &Coming) -> bool {
+    let mut any = false;
+    for a in 0..4 {
+        let (state, other) = (coming.row.slots[a], other.row.slots[a]);
+        if !slots_agree(state, other) && put_call(out, instrs, a as u8, coming, other) {
+            any = true;
+        }
     }
-}
-
-/// The same of each slot for which a CALL is named.
-pub(crate) fn put_emptied_items(
-    out: &mut Vec<u8>,
-    lines: &[u32],
-    named: &[Option<Emptied>; 4],
-    others: &[SlotState; 4],
-) -> Done {
-    for a in 0..named.len() {
-        put_emptied_item(out, lines, a, named[a], others[a])?;
-    }
-    Ok(())
-}
-
-/// A slot, where two states of it differ in more than the mark, and what it holds in the first.
-fn put_differing(out: &mut Vec<u8>, i: usize, state: SlotState, other: SlotState) -> Done {
-    let slot = Part::Numbered(" s", i as u64);
-    if slots_agree(state, other) {
-        Ok(())
-    } else if is_empty(state) {
-        put!(out; (slot) " empty")
-    } else {
-        put!(out; (slot) "=" [state_word(state)])
-    }
-}
-
-/// The slots of a row that differ in more than marks from those of another.
-fn put_all_differing(out: &mut Vec<u8>, slots: &[SlotState; 4], others: &[SlotState; 4]) -> Done {
-    for i in 0..slots.len() {
-        put_differing(out, i, slots[i], others[i])?;
-    }
-    Ok(())
+    any
 }
 
 /// Whether the instruction at a pc can be refused, and goes to its label then.
@@ -115,186 +117,247 @@ fn is_refusable(instrs: &[Instr], from: u16) -> bool
     }
 }
 
-/// Where an edge comes from, and that its instruction is refused there, if it is that of a refusal.
-fn put_edge(out: &mut Vec<u8>, lines: &[u32], instrs: &[Instr], edge: Edge) -> Done {
-    let place = pc_part(lines, edge.from);
-    if edge.branch && is_refusable(instrs, edge.from) {
-        put!(out; " where" (place) " is refused:")
-    } else {
-        put!(out; (place) ":")
-    }
-}
-
 /// Where control comes from.
-fn put_coming_from(out: &mut Vec<u8>, lines: &[u32], instrs: &[Instr], coming: &Coming) -> Done {
-    match coming.from {
-        Some(edge) => put_edge(out, lines, instrs, edge),
-        None => out.extend_from_slice(b" the in line:"),
-    }
+fn put_from(out: &mut Saying, instrs: &[Instr], coming: &Coming) {
+    let (words, place) = match coming.from {
+        Some(edge) if edge.branch && is_refusable(instrs, edge.from) => {
+            (" from the refusal at", Part::At(edge.from))
+        }
+        Some(edge) => (" from", Part::At(edge.from)),
+        None => (" from the in line", Part::Text("")),
+    };
+    put!(out; [words] (place) ":")
 }
 
-/// How control comes to a place, and the slots that differ from those of another way.
-fn put_coming(
-    out: &mut Vec<u8>,
-    lines: &[u32],
-    instrs: &[Instr],
-    coming: &Coming,
-    other: &Coming,
-) -> Done {
-    out.extend_from_slice(b" from")?;
-    put_coming_from(out, lines, instrs, coming)?;
-    put_all_differing(out, &coming.row.slots, &other.row.slots)
-}
-
-/// Slots differ where ways meet.
-fn put_ways(out: &mut Vec<u8>, lines: &[u32], instrs: &[Instr], apart: &Apart) -> Done {
-    put!(out; "at" (pc_part(lines, apart.to)) ",")?;
-    put_coming(out, lines, instrs, &apart.first, &apart.second)?;
-    out.extend_from_slice(b";")?;
-    put_coming(out, lines, instrs, &apart.second, &apart.first)
-}
-
-/// Slots differ where ways meet, and the CALLs by which they do.
-fn put_apart(out: &mut Vec<u8>, lines: &[u32], instrs: &[Instr], apart: &Apart) -> Done {
-    put_ways(out, lines, instrs, apart)?;
-    put_emptied_items(out, lines, &apart.first.emptied, &apart.second.row.slots)?;
-    put_emptied_items(out, lines, &apart.second.emptied, &apart.first.row.slots)
-}
-
-/// What the way of a LOOP to its target does, which may lie ahead.
-fn leads_text(back: &BackWay) -> &'static str {
-    if back.from < back.to {
-        " leads on to"
+/// What a slot has.
+fn put_state(out: &mut Saying, a: u8, state: SlotState) {
+    let (slot, empty) = if is_empty(state) {
+        (Part::Numbered(" s", a as u64), " empty")
     } else {
-        " goes back to"
+        (Part::Slot(a, state), "")
+    };
+    put!(out; (slot) [empty])
+}
+
+/// How control comes to a place, and the slots that differ in more than marks from those of another way.
+fn put_coming(out: &mut Saying, instrs: &[Instr], coming: &Coming, other: &Coming) {
+    put_from(out, instrs, coming);
+    for a in 0..4 {
+        let state = coming.row.slots[a];
+        if !slots_agree(state, other.row.slots[a]) {
+            put_state(out, a as u8, state)
+        }
     }
 }
 
-/// A text, and a way that leads back.
-fn put_back(out: &mut Vec<u8>, text: &str, lines: &[u32], back: &BackWay) -> Done {
-    put!(out; [text] (pc_part(lines, back.from)) [leads_text(back)] (pc_part(lines, back.to)))
+/// Another label for the instruction by whose refusal control comes so, if it does.
+fn put_label(out: &mut Saying, instrs: &[Instr], coming: &Coming) {
+    if let Some(edge) = coming.from {
+        if edge.branch && is_refusable(instrs, edge.from) {
+            put!(out; "give" at(edge.from) " another label, or ")
+        }
+    }
 }
 
-/// A counter is set within its loop.
-fn put_within(out: &mut Vec<u8>, lines: &[u32], within: &Within) -> Done {
-    put!(out; "k" {within.counter} " is set at" (pc_part(lines, within.at)))?;
-    put_back(out, ", within its own loop:", lines, &within.back)
+/// Slots differ where ways meet, the CALLs by which they do, or what else helps.
+fn put_apart(out: &mut Saying, instrs: &[Instr], apart: &Apart) {
+    put!(out; "at" at(apart.to) ",");
+    put_coming(out, instrs, &apart.first, &apart.second);
+    put!(out; ";");
+    put_coming(out, instrs, &apart.second, &apart.first);
+    let first = put_calls(out, instrs, &apart.first, &apart.second);
+    let second = put_calls(out, instrs, &apart.second, &apart.first);
+    if !first && !second {
+        put_alike(out, instrs, apart)
+    }
 }
 
-/// A call touches a counter.
-fn put_call(out: &mut Vec<u8>, lines: &[u32], within: &Within) -> Done {
-    put!(out; "the call at" (pc_part(lines, within.at)) " touches k" {within.counter})
+/// What helps if no CALL does.
+fn put_alike(out: &mut Saying, instrs: &[Instr], apart: &Apart) {
+    put!(out; "; ");
+    put_label(out, instrs, &apart.first);
+    put_label(out, instrs, &apart.second);
+    put!(out; "lock and unlock alike on both paths")
 }
 
-/// A call touches a counter within its loop.
-fn put_touched(out: &mut Vec<u8>, lines: &[u32], within: &Within) -> Done {
-    put_call(out, lines, within)?;
-    put_back(out, ", within its own loop:", lines, &within.back)
+/// A text, a way by which control goes round, which may lead ahead, of a LOOP to its target, and what helps.
+fn put_back(out: &mut Saying, text: &'static str, back: &BackWay, cure: &'static str) {
+    let leads = either(back.from < back.to, " leads on to", " goes back to");
+    put!(out; [text] at(back.from) [leads] at(back.to) [cure])
 }
 
-/// A call touches a counter that is not set behind it.
-fn put_touched_before(out: &mut Vec<u8>, lines: &[u32], within: &Within) -> Done {
-    put_call(out, lines, within)?;
-    put_back(
-        out,
-        ", which nothing sets before its loop:",
-        lines,
-        &within.back,
-    )
-}
-
-/// Nothing sets a counter on a way to its loop.
-fn put_not_set(out: &mut Vec<u8>, lines: &[u32], own: &LoopOn) -> Done {
-    put!(out; "nothing sets k" {own.counter})?;
-    put_back(out, " on a way to its loop:", lines, &own.back)
+/// A counter is set, or touched by a CALL, within its loop or before it; and what helps.
+fn put_within(
+    out: &mut Saying,
+    within: &Within,
+    touches: bool,
+    text: &'static str,
+    cure: &'static str,
+) {
+    if touches {
+        put!(out; "the CALL at" at(within.at) " touches k" {within.counter})
+    } else {
+        put!(out; "k" {within.counter} " is set at" at(within.at))
+    }
+    put_back(out, text, &within.back, cure)
 }
 
 /// A counter is set in the loop of a way that leads back.
-fn put_set_in(out: &mut Vec<u8>, lines: &[u32], counter: u8, at: u16, back: &BackWay) -> Done {
-    put!(out; "k" {counter} " at" (pc_part(lines, at)))?;
-    put_back(out, " in the loop where", lines, back)
+fn put_set_in(out: &mut Saying, counter: u8, at: u16, back: &BackWay) {
+    put!(out; "k" {counter} " at" at(at));
+    put_back(out, " in the loop where", back, "")
 }
 
 /// Two loops set the counters of each other.
-fn put_in_turn(out: &mut Vec<u8>, lines: &[u32], both: &LoopPair) -> Done {
-    out.extend_from_slice(b"two loops set the counters of each other: ")?;
-    put_set_in(out, lines, both.other_counter, both.at, &both.back)?;
-    out.extend_from_slice(b", and ")?;
-    put_set_in(out, lines, both.counter, both.other_at, &both.other)
+fn put_in_turn(out: &mut Saying, both: &LoopPair) {
+    put!(out; "two loops set the counters of each other: ");
+    put_set_in(out, both.other_counter, both.at, &both.back);
+    put!(out; ", and ");
+    put_set_in(out, both.counter, both.other_at, &both.other);
+    put!(out; "; set one of them outside the loop of the other")
 }
 
 /// Loops set the counters of each other in a ring.
-fn put_in_ring(out: &mut Vec<u8>, lines: &[u32], ring: &LoopRing) -> Done {
-    out.extend_from_slice(b"loops set the counters of each other in a ring: ")?;
-    put_set_in(out, lines, ring.next_counter, ring.at, &ring.back)?;
-    out.extend_from_slice(b", ")?;
-    put_set_in(out, lines, ring.third_counter, ring.next_at, &ring.next)?;
-    out.extend_from_slice(b", and so on")
+fn put_in_ring(out: &mut Saying, ring: &LoopRing) {
+    put!(out; "loops set the counters of each other in a ring: ");
+    put_set_in(out, ring.next_counter, ring.at, &ring.back);
+    put!(out; ", ");
+    put_set_in(out, ring.third_counter, ring.next_at, &ring.next);
+    put!(out; ", and so on; set one of them outside the other loops")
 }
 
-/// The steps pass the limit where a word is so large as it may be.
-fn put_by_word(out: &mut Vec<u8>, lines: &[u32], by_word: &ByWord) -> Done {
-    put!(out;
-        "the steps may pass 4,294,967,295, since w" {by_word.word} " may be " {by_word.most} " at"
-        (pc_part(lines, by_word.at)) ": CHK it by a lower number"
+/// What is said if a counter is set to a word, or to a number, for a loop that takes too many steps.
+fn dear(cause: &Cause) -> [Part<'static>; 5] {
+    const NUMBER: Part = Part::Text(": set it to a lower number");
+    const WORD: Part = Part::Text(": CHK it by a lower number before that");
+    const NONE: Part = Part::Text("");
+    match cause {
+        Cause::WordUnbounded(by) => [
+            Part::Numbered("the steps may pass 4,294,967,295, since w", by.word as u64),
+            Part::Numbered(" may be ", by.most as u64),
+            Part::Placed(" at", by.at),
+            WORD,
+            NONE,
+        ],
+        Cause::WordDear(by) => [
+            Part::Numbered("no steps up to 4,294,967,295 were found; w", by.word as u64),
+            Part::Numbered(" may be ", by.most as u64),
+            Part::Placed(" at", by.at),
+            Part::Numbered(", which sets k", by.counter as u64),
+            WORD,
+        ],
+        Cause::NumberHigh(by) => [
+            Part::Numbered(
+                "the steps may pass 4,294,967,295, since k",
+                by.counter as u64,
+            ),
+            Part::Numbered(" is set to ", by.number as u64),
+            Part::Placed(" at", by.at),
+            NUMBER,
+            NONE,
+        ],
+        Cause::NumberDear(by) => [
+            Part::Numbered(
+                "no steps up to 4,294,967,295 were found; k",
+                by.counter as u64,
+            ),
+            Part::Numbered(" is set to ", by.number as u64),
+            Part::Placed(" at", by.at),
+            NUMBER,
+            NONE,
+        ],
+        _ => [NONE, NONE, NONE, NONE, NONE],
+    }
+}
+
+/// What is said if no place is named.
+fn plain(cause: &Cause) -> &'static str {
+    match cause {
+        Cause::StepsPass =>
+            "the steps pass 4,294,967,295: set counters to lower numbers, or call routines with lower budgets",
+        Cause::StepsMayPass =>
+            "the steps may pass 4,294,967,295 on a path without a loop: call routines with lower budgets",
+        Cause::Unknown => "no steps were found",
+        _ => "",
+    }
+}
+
+/// Nothing sets the counter of a LOOP on a path to it.
+fn put_not_set(out: &mut Saying, own: &LoopOn) {
+    put!(out; "nothing sets k" {own.counter});
+    put_back(
+        out,
+        " on a path to its loop:",
+        &own.back,
+        "; set it there by SETK or SETKW",
     )
 }
 
-/// No steps that fit were found where a word is so large as it may be.
-fn put_dear_word(out: &mut Vec<u8>, lines: &[u32], by_word: &ByWord) -> Done {
-    put!(out;
-        "no steps up to 4,294,967,295 were found; w" {by_word.word} " may be " {by_word.most} " at"
-        (pc_part(lines, by_word.at)) ", which sets k" {by_word.counter} ": CHK it by a lower number"
-    )
+/// What is said of the counters of loops.
+fn put_counters(out: &mut Saying, cause: &Cause) {
+    match cause {
+        Cause::SetWithin(within) | Cause::SetAgain(within) => put_within(
+            out,
+            within,
+            false,
+            WITHIN,
+            "; set it before the loop, or another counter there",
+        ),
+        Cause::TouchedWithin(within) => put_within(
+            out,
+            within,
+            true,
+            WITHIN,
+            "; use another counter for the loop",
+        ),
+        Cause::TouchedBefore(within) => put_within(
+            out,
+            within,
+            true,
+            ", which nothing sets before its loop:",
+            "; set it after the CALL",
+        ),
+        Cause::NotSet(own) => put_not_set(out, own),
+        Cause::InTurn(both) => put_in_turn(out, both),
+        Cause::InRing(ring) => put_in_ring(out, ring),
+        _ => {}
+    }
 }
 
-/// A text, and that a counter is set to a number.
-fn put_set_to(out: &mut Vec<u8>, text: &str, lines: &[u32], by_number: &ByNumber) -> Done {
-    put!(out;
-        [text] "k" {by_number.counter} " is set to " {by_number.number} " at"
-        (pc_part(lines, by_number.at))
-    )
+/// What is said of a loop for which no steps are found, and what helps.
+fn of_loop(cause: &Cause) -> Option<(&'static str, BackWay, &'static str)> {
+    match cause {
+        Cause::NoLoop(back) => Some((
+            "no counter pays for the path back:",
+            *back,
+            "; end the loop by LOOP, and set its counter before the loop",
+        )),
+        Cause::GivenUp(back) => Some((
+            "the search for steps takes too long and was given up; the first loop:",
+            *back,
+            "; use fewer or simpler loops",
+        )),
+        Cause::NoSteps(back) => Some(("no steps were found for the loop:", *back, "; simplify it")),
+        Cause::Unfound(back) => Some((
+            "no steps were found; the first loop:",
+            *back,
+            "; simplify it",
+        )),
+        _ => None,
+    }
 }
 
 /// Why no rows or no numbers of steps are found.
-fn put_cause(out: &mut Vec<u8>, lines: &[u32], instrs: &[Instr], cause: &Cause) -> Done {
-    match cause {
-        Cause::SlotsDiffer(apart) => put_apart(out, lines, instrs, apart),
-        Cause::NoLoop(back) => put_back(out, "nothing pays for the way back:", lines, back),
-        Cause::SetWithin(within) | Cause::SetAgain(within) => put_within(out, lines, within),
-        Cause::TouchedWithin(within) => put_touched(out, lines, within),
-        Cause::TouchedBefore(within) => put_touched_before(out, lines, within),
-        Cause::NotSet(own) => put_not_set(out, lines, own),
-        Cause::InTurn(both) => put_in_turn(out, lines, both),
-        Cause::InRing(ring) => put_in_ring(out, lines, ring),
-        Cause::WordUnbounded(by_word) => put_by_word(out, lines, by_word),
-        Cause::NumberHigh(by_number) => put_set_to(
-            out,
-            "the steps may pass 4,294,967,295, since ",
-            lines,
-            by_number,
-        ),
-        Cause::WordDear(by_word) => put_dear_word(out, lines, by_word),
-        Cause::NumberDear(by_number) => put_set_to(
-            out,
-            "no steps up to 4,294,967,295 were found; ",
-            lines,
-            by_number,
-        ),
-        Cause::GivenUp(back) => put_back(
-            out,
-            "the search for steps takes too long and was given up; the first loop:",
-            lines,
-            back,
-        ),
-        Cause::StepsPass => out.extend_from_slice(b"the steps pass 4,294,967,295"),
-        Cause::StepsMayPass => {
-            out.extend_from_slice(b"the steps may pass 4,294,967,295 on a way that leads ahead")
-        }
-        Cause::NoSteps(back) => put_back(out, "no steps were found for the loop:", lines, back),
-        Cause::Unfound(back) => put_back(out, "no steps were found; the first loop:", lines, back),
-        Cause::Unknown => out.extend_from_slice(b"no steps were found"),
+fn put_cause(out: &mut Saying, instrs: &[Instr], cause: &Cause) {
+    if let Cause::SlotsDiffer(apart) = cause {
+        put_apart(out, instrs, apart)
     }
+    put_counters(out, cause);
+    if let Some((text, back, cure)) = of_loop(cause) {
+        put_back(out, text, &back, cure)
+    }
+    out.put(&dear(cause));
+    out.put(&[Part::Text(plain(cause))])
 }
 
 /// The line that says why no rows or no numbers of steps are found for instructions. `lines` has the number of each one's line,
@@ -305,8 +368,8 @@ pub fn explain_cause(
     instrs: &[Instr],
     cause: &Cause,
 ) -> Result<Vec<u8>, AllocError> {
-    let mut out = Vec::new(alloc);
-    put_cause(&mut out, lines, instrs, cause)?;
-    out.extend_from_slice(b"\n")?;
-    Ok(out)
+    let mut out = Saying::new(alloc, lines);
+    put_cause(&mut out, instrs, cause);
+    put!(out; "\n");
+    out.finish()
 }

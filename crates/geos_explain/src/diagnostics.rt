@@ -1,9 +1,8 @@
 //! Refusals as diagnostics: a line for each, with the file and the line of the text, so that editors go there.
 
-ghost use Rattle.std.specs.Prelude.{◌≡◌, ◌<◌, ◌≤◌, ◌+◌, true, length};
+ghost use Rattle.std.specs.Prelude.{◌≡◌, ◌<◌, true, length};
 ghost use Rattle.geos_image.specs.Legal.{is_image};
 
-use crate::Done;
 use crate::explained::Explained;
 use crate::filled::Filled;
 use crate::led::reached;
@@ -11,6 +10,7 @@ use crate::place::Place;
 use crate::refusals::rule_at;
 use crate::repeated::told_once;
 use crate::routines::{ExplainedRoutine, place_at};
+use crate::saying::Saying;
 use crate::words::{put_words, rule_number};
 use geos_image::Image;
 use geos_verify::{Rule, over_budget};
@@ -22,66 +22,49 @@ const MOST: u32 = 20;
 /// Diagnostics that are being written.
 #[derive(Drop)]
 struct Diagnostics<'a> {
-    out: Vec<u8>,
+    out: Saying<'a>,
     file: &'a str,
     /// How many refusals there are so far.
     refusals: u32,
 }
 
-/// Appends which instruction of an image it is.
-fn put_pc(out: &mut Vec<u8>, place: &Place) -> Done {
-    put!(out; ": routine " bytes(place.routine.name_text()) ", pc " {place.pc})
-}
-
-/// Appends where the instruction is: its line, or of an image without a text its routine and pc.
-fn put_place(out: &mut Vec<u8>, file: &str, place: &Place) -> Done {
-    put!(out; [file])?;
-    match place.lines.get(usize::from(place.pc)) {
+/// Writes the line of a refusal by the rule, with the line of the instruction, or without a text its routine and pc.
+fn put_line(out: &mut Saying, file: &str, place: &Place, rule: Rule) {
+    put!(out; [file]);
+    match out.lines.get(usize::from(place.pc)) {
         Some(line) => put!(out; ":" {*line}),
-        None => put_pc(out, place),
+        None => put!(out; ": routine " name(place.routine.name_text()) ", pc " {place.pc}),
     }
-}
-
-/// Appends the line of a refusal by the rule.
-fn put_line(out: &mut Vec<u8>, file: &str, place: &Place, rule: Rule) -> Done {
-    put_place(out, file, place)?;
-    put!(out; ": error: V" {rule_number(rule)} ":")?;
-    put_words(out, place, rule)?;
+    put!(out; ": error: V" {rule_number(rule)} ":");
+    put_words(out, place, rule);
     put!(out; "\n")
-}
-
-/// Appends how many refusals have no line.
-fn put_more(out: &mut Vec<u8>, file: &str, more: u32) -> Done {
-    put!(out; [file] ": note: and " {more} " more\n")
 }
 
 impl Diagnostics<'_> {
     /// Takes the next refusal, which has a line if it is one of the first.
-    fn take(&mut self, place: &Place, rule: Rule) -> Done {
+    fn take(&mut self, place: &Place, rule: Rule) {
         self.refusals = self.refusals.saturating_add(1);
-        if self.refusals > MOST {
-            return Ok(());
+        if self.refusals <= MOST {
+            let file = self.file;
+            put_line(&mut self.out, file, place, rule)
         }
-        let file = self.file;
-        put_line(&mut self.out, file, place, rule)
     }
 
     /// Takes the refusal of the instruction at a pc, if a rule refuses it, and that of the routine's budget at its first one.
-    fn take_place(&mut self, within: &ExplainedRoutine, start: u16, pc: u16) -> Done
+    fn take_place(&mut self, within: &ExplainedRoutine, start: u16, pc: u16)
         requires { pc < length within.now.explained.now.image.now.points }
     {
         let place = place_at(within, pc);
         if let Some(rule) = rule_at(within.explained.refused, pc) {
-            self.take(&place, rule)?;
+            self.take(&place, rule);
         }
         if pc == start && over_budget(pc, within.routine, pc, place.potential) {
-            self.take(&place, Rule::OverBudget)?;
+            self.take(&place, Rule::OverBudget);
         }
-        Ok(())
     }
 
     /// Takes the refusals of a routine.
-    fn take_routine(&mut self, explained: &Explained, r: u16) -> Done
+    fn take_routine(&mut self, explained: &Explained, r: u16)
         requires within { r < length explained.now.image.now.routines }
         requires legal { is_image explained.now.image.now ≡ true }
     {
@@ -93,21 +76,15 @@ impl Diagnostics<'_> {
             routine,
         };
         for k in 0..routine.count {
-            self.take_place(&within, start, start + k)?;
+            self.take_place(&within, start, start + k);
         }
-        Ok(())
     }
 
-    /// Takes the refusals of all routines, and appends how many have no line.
-    fn take_all(&mut self, explained: &Explained) -> Done {
+    /// Takes the refusals of all routines.
+    fn take_all(&mut self, explained: &Explained) {
         for r in 0..explained.image.count() {
-            self.take_routine(explained, r)?;
+            self.take_routine(explained, r);
         }
-        if self.refusals <= MOST {
-            return Ok(());
-        }
-        let (file, more) = (self.file, self.refusals - MOST);
-        put_more(&mut self.out, file, more)
     }
 }
 
@@ -124,12 +101,17 @@ pub fn diagnose(
     let filled = Filled::of(alloc, image)?;
     let told = told_once(alloc, &filled, refused)?;
     let marks = reached(&filled);
-    let explained = Explained::of(&filled, lines, &marks, &told);
+    let explained = Explained::of(&filled, &marks, &told);
     let mut diagnostics = Diagnostics {
-        out: Vec::new(alloc),
+        out: Saying::new(alloc, lines),
         file,
         refusals: 0,
     };
-    diagnostics.take_all(&explained)?;
-    Ok(diagnostics.out)
+    diagnostics.take_all(&explained);
+    let refusals = diagnostics.refusals;
+    let mut out = diagnostics.out;
+    if refusals > MOST {
+        put!(out; [file] ": note: and " {refusals - MOST} " more\n");
+    }
+    out.finish()
 }

@@ -14,8 +14,6 @@ use geos_verify::Rule;
 #[derive(Clone, Copy)]
 pub(crate) struct Explained<'a> {
     pub image: &'a Filled<'a>,
-    /// The line of each instruction in an author's text; else nothing.
-    pub lines: &'a [u32],
     /// What control reaches.
     pub marks: &'a Marks,
     /// For each pc the rule that is told there, if one is.
@@ -27,18 +25,12 @@ pub(crate) struct Explained<'a> {
 }
 
 impl<'a> Explained<'a> {
-    /// The image, with the line of each instruction or nothing, where control reaches what is marked, and these rules are told.
-    pub fn of(
-        image: &'a Filled<'a>,
-        lines: &'a [u32],
-        marks: &'a Marks,
-        told: &'a [Option<Rule>],
-    ) -> Explained<'a>
+    /// The image, where control reaches what is marked, and these rules are told.
+    pub fn of(image: &'a Filled<'a>, marks: &'a Marks, told: &'a [Option<Rule>]) -> Explained<'a>
         requires { Marking marks.now (is_reached image.now) }
     {
         Explained {
             image,
-            lines,
             marks,
             refused: told,
             untold: first_untold(told, most_told(image.len())),

@@ -8,11 +8,10 @@ ghost use Rattle.geos_explain.specs.Forgotten.{knows, comes_lacked, is_lacked_fr
 ghost use Rattle.geos_explain.specs.Forgotten.{moves, moves_at, if_round, IsMovedRound, WhatIsSaidOfRoundsHolds, stays_lacked};
 ghost use Rattle.geos_explain.specs.declared.forgotten.Item.TheVariants.{Bound};
 
-use crate::Done;
 use crate::led::led_from;
-use crate::numbers::pc_part;
 use crate::place::Place;
 use crate::routines::{comes_alike, is_inside};
+use crate::saying::Saying;
 use crate::ways::forgets;
 use geos_flow::{Counting, Edge, Heading, Marks, end_of, is_marked};
 use geos_image::{Instr, Opcode, Pointer, Row, SlotState};
@@ -169,7 +168,7 @@ fn moves_at(place: &Place, item: Item, w: u8, marks: &Marks, from: u16) -> bool
 
 /// The last such instruction of the routine.
 #[tactic(auto, unfolding(crate::specs::Places::last_of))]
-fn last_moving(place: &Place, item: Item, w: u8) -> Option<u16>
+pub(crate) fn last_moving(place: &Place, item: Item, w: u8) -> Option<u16>
     ensures last { result ≡ last_of (place_of place.now) (moves_at (place_of place.now) item w) place.now.routine.now.count }
     ensures low { IfSome result (λ from. from < 4096) }
 {
@@ -198,27 +197,25 @@ fn if_round(place: &Place, item: Item, from: Option<u16>) -> Option<u16>
     }
 }
 
-/// The instruction at a pc moves the word going round, and it is not known then to be at most so much.
-fn put_moved(out: &mut Vec<u8>, place: &Place, w: u8, most: u16, from: u16) -> Done
+/// The instruction at a pc changes the word in each iteration, and it is not known then to be at most so much.
+fn put_moved(out: &mut Saying, place: &Place, w: u8, most: u16, from: u16)
     requires { IsMovedRound (place_of place.now) (Bound w most) w from }
 {
-    match place.image.place(from) {
-        Some(point) => put!(out;
-            "; " [point.instr.opcode.word()] " at" (pc_part(place.lines, from)) " moves w" {w}
-            " going round, and w" {w} "<=" {most} " is not known then"
-        ),
-        None => Ok(()),
+    if let Some(point) = place.image.place(from) {
+        put!(out;
+            "; " [point.instr.opcode.word()] " at" at(from) " changes w" {w} " in each iteration, and w" {w} "<=" {most}
+            " is not known then"
+        )
     }
 }
 
-/// Which instruction moves the index going round, where a bound of it is wanted, if one does.
-pub(crate) fn put_moved_round(out: &mut Vec<u8>, place: &Place, item: Item) -> Done {
+/// Which instruction changes the index in each iteration, if a bound of it is required, and one does.
+pub(crate) fn put_moved_round(out: &mut Saying, place: &Place, item: Item) {
     let Item::Bound(w, most) = item else {
-        return Ok(());
+        return;
     };
-    match if_round(place, item, last_moving(place, item, w)) {
-        Some(from) => put_moved(out, place, w, most, from),
-        None => Ok(()),
+    if let Some(from) = if_round(place, item, last_moving(place, item, w)) {
+        put_moved(out, place, w, most, from)
     }
 }
 

@@ -1,19 +1,16 @@
-//! Which slots are held that must not be, and since where.
+//! Which slots are locked that must not be, and since where.
 
 ghost use Rattle.std.specs.Prelude.{◌≡◌};
 ghost use Rattle.geos_explain.specs.Places.{place_of};
-ghost use Rattle.geos_explain.specs.Held.{is_held_at, has_borrowed};
+ghost use Rattle.geos_explain.specs.Held.{is_held_at};
 ghost use Rattle.geos_explain.specs.Since.{IsSaidOf};
 
-use crate::Done;
 use crate::lacks::{lacking, put_lacking};
-use crate::numbers::{either, is_one_item, is_or_are, pc_part, put_also, put_are, written_from};
 use crate::place::Place;
 use crate::public::put_missing;
+use crate::saying::{Part, Saying, either};
 use crate::since::{Since, held_since};
-use crate::uses::put_state;
-use geos_image::Row;
-use geos_text::Part;
+use crate::uses::unlocking;
 use geos_verify::{is_empty, is_of_file, slot_state};
 
 /// Where slots are held that must not be.
@@ -36,131 +33,107 @@ fn is_held_at(which: HeldAt, place: &Place, a: u8) -> bool
     }
 }
 
-/// Each of these slots, and what it holds.
-pub(crate) fn put_slots_at(out: &mut Vec<u8>, which: HeldAt, place: &Place) -> Done {
+/// Each of these slots, and what it has.
+fn put_slots_at(out: &mut Saying, which: HeldAt, place: &Place) {
     for a in 0..4 {
         if is_held_at(which, place, a) {
-            put_state(out, a, place.row)?;
+            put!(out; slot(a, slot_state(place.row, a)));
         }
     }
-    Ok(())
 }
 
-/// That a slot is held since a place, and whether since another one too.
-fn put_since_words(out: &mut Vec<u8>, a: u8, place: Part, other: bool) -> Done {
-    let another = either(other, " or another place", "");
-    put!(out; "; s" {a} " is held since" (place) [another])
-}
-
-/// The same, if it is known since where; of several places, one.
-fn put_since(out: &mut Vec<u8>, place: &Place, a: u8, since: Since) -> Done
+/// Since where the slot is locked, if that is known; of several places, one.
+fn put_since(out: &mut Saying, place: &Place, a: u8, since: Since)
     requires { IsSaidOf (place_of place.now) a since }
 {
-    if since.entry {
-        return put_since_words(out, a, Part::Text(" the in line"), since.from.is_some());
-    }
-    match since.from {
-        Some(from) => put_since_words(out, a, pc_part(place.lines, from), since.again),
-        None => Ok(()),
-    }
-}
-
-/// What to do with a slot that a private routine holds at its return since the `in` line, and that is not borrowed.
-fn put_kept_wish(out: &mut Vec<u8>, which: HeldAt, place: &Place, a: u8, entry: bool) -> Done {
-    let HeldAt::Return = which else {
-        return Ok(());
+    let (words, from, again) = match (since.entry, since.from) {
+        (true, other) => (" the in line", Part::Text(""), other.is_some()),
+        (false, Some(from)) => ("", Part::At(from), since.again),
+        (false, None) => return,
     };
-    if !entry || !slot_state(place.row, a).is_own() || place.routine.public {
-        return Ok(());
-    }
-    out.extend_from_slice(b": say")?;
-    put_state(out, a, place.row)?;
-    out.extend_from_slice(b" in the out line, or unlock it")
+    put!(out; "; s" {a} " is locked since" [words] (from) [either(again, " or another place", "")])
 }
 
-/// Since where a slot is held that must not be, and what to do.
-fn put_since_at(out: &mut Vec<u8>, which: HeldAt, place: &Place, a: u8) -> Done {
+/// What to do with a slot that is locked there, and not borrowed.
+fn put_held_wish(out: &mut Saying, which: HeldAt, place: &Place, a: u8, entry: bool) {
+    let state = slot_state(place.row, a);
+    let nothing = Part::Text("");
+    let slot = Part::Numbered(" s", a as u64);
+    let unlocks = Part::Text(unlocking(state));
+    let parts = match which {
+        HeldAt::Return if !state.is_own() => [nothing, nothing, nothing, nothing],
+        HeldAt::Return if place.routine.public => [
+            Part::Text(": "),
+            unlocks,
+            slot,
+            Part::Text(" before the return"),
+        ],
+        HeldAt::Return => [
+            Part::Text(": say it in the out line, or "),
+            unlocks,
+            slot,
+            Part::Text(" before the return"),
+        ],
+        HeldAt::Write if entry && state.is_own() => [
+            Part::Text(": unlock it in the caller"),
+            nothing,
+            nothing,
+            nothing,
+        ],
+        HeldAt::Write => [nothing, nothing, nothing, nothing],
+    };
+    out.put(&parts)
+}
+
+/// Since where a slot is locked that must not be, and what to do.
+fn put_since_at(out: &mut Saying, which: HeldAt, place: &Place, a: u8) {
     if !is_held_at(which, place, a) {
-        return Ok(());
+        return;
     }
     let since = held_since(place, a);
-    put_since(out, place, a, since)?;
-    put_kept_wish(out, which, place, a, since.entry)
+    put_since(out, place, a, since);
+    put_held_wish(out, which, place, a, since.entry)
 }
 
-/// The same of each slot.
-pub(crate) fn put_sinces_at(out: &mut Vec<u8>, which: HeldAt, place: &Place) -> Done {
+/// The row does not fit the exit row: slots are still locked, or else it requires more.
+pub(crate) fn put_exit(out: &mut Saying, place: &Place) {
+    let exit = &place.routine.exit;
+    let before = out.out.len();
+    put_slots_at(out, HeldAt::Return, place);
+    if out.out.len() == before {
+        put_lacking(out, place.row, exit);
+        return out.put_are(before, " required by the out line, and not known here");
+    }
+    out.put_are(before, " still locked at the return");
     for a in 0..4 {
-        put_since_at(out, which, place, a)?;
+        put_since_at(out, HeldAt::Return, place, a);
     }
-    Ok(())
-}
-
-/// What else the exit row wants.
-fn put_else_wanted(out: &mut Vec<u8>, place: &Place) -> Done {
-    put_also(
-        out,
-        &lacking(place.row, &place.routine.exit),
-        " wanted by the out line, and not known here",
+    put_missing(out, place.row, exit);
+    out.put_also(
+        &lacking(place.row, exit),
+        "",
+        " required by the out line, and not known here",
     )
 }
 
-/// Slots are still held at the return, since where, which of them are borrowed, and what else the exit row wants.
-fn put_kept_words(out: &mut Vec<u8>, place: &Place, before: usize) -> Done {
-    put_are(out, before, " still held at the return")?;
-    put_sinces_at(out, HeldAt::Return, place)?;
-    put_missing(out, place.row, &place.routine.exit)?;
-    put_else_wanted(out, place)
-}
-
-/// The exit row wants more than the row says.
-fn put_unmet(out: &mut Vec<u8>, place: &Place) -> Done {
-    let before = out.len();
-    put_lacking(out, place.row, &place.routine.exit)?;
-    put_are(out, before, " wanted by the out line, and not known here")
-}
-
-/// The row does not fit the exit row: slots are still held, or else it wants more.
-pub(crate) fn put_exit(out: &mut Vec<u8>, place: &Place) -> Done {
-    let before = out.len();
-    put_slots_at(out, HeldAt::Return, place)?;
-    if out.len() == before {
-        return put_unmet(out, place);
+/// The VM file is written while slots have blocks of it. What is borrowed stays locked.
+pub(crate) fn put_written(out: &mut Saying, place: &Place) {
+    let before = out.out.len();
+    put_slots_at(out, HeldAt::Write, place);
+    let one = out.is_one(before);
+    let mut borrows = false;
+    for a in 0..4 {
+        borrows = borrows || !slot_state(place.row, a).is_own();
     }
-    put_kept_words(out, place, before)
-}
-
-/// Whether some slot is borrowed.
-fn has_borrowed(row: &Row) -> bool
-    ensures { result ≡ has_borrowed row.now }
-{
-    row.slots.iter().any(|state| !state.is_own())
-}
-
-/// What is to be done with the slots that are held there; what is borrowed stays held.
-fn held_wish(borrowed: bool, items: &[u8]) -> &'static str {
-    if borrowed {
-        return ": what is borrowed from the caller can't be unlocked here";
+    put!(out;
+        [either(one, " is", " are")] " locked where the file is written: "
+        [either(
+            borrows,
+            "write it in a routine that borrows no slot",
+            either(one, "unlock it before", "unlock them before"),
+        )]
+    );
+    for a in 0..4 {
+        put_since_at(out, HeldAt::Write, place, a);
     }
-    either(
-        is_one_item(items),
-        ": unlock it before",
-        ": unlock them before",
-    )
-}
-
-/// That the slots that were written from a place on are held where the file is written; and whether one is borrowed.
-fn put_written_behind(out: &mut Vec<u8>, before: usize, borrowed: bool) -> Done {
-    let items = written_from(out, before);
-    let verb = is_or_are(items);
-    let wish = held_wish(borrowed, items);
-    put!(out; [verb] " held where the file is written" [wish])
-}
-
-/// The VM file is written while slots hold blocks of it.
-pub(crate) fn put_written(out: &mut Vec<u8>, place: &Place) -> Done {
-    let before = out.len();
-    put_slots_at(out, HeldAt::Write, place)?;
-    put_written_behind(out, before, has_borrowed(place.row))?;
-    put_sinces_at(out, HeldAt::Write, place)
 }

@@ -4,22 +4,26 @@
 //! docs/FORMATS.md has the form.
 #![tactic(auto)]
 
-use std::alloc::AllocError;
-
-/// Appends the parts of a sentence: `"text"`, `"text" {number}`, `[text]`, `bytes(name)` and `(part)`.
+/// Writes the parts of a sentence: `"text"`, `"text" {number}`, `[text]`, `name(bytes)`, `at(pc)`, `slot(number, state)` and `(part)`.
 macro_rules! put {
-    (@parts $out:expr, [$($parts:tt)*]) => { geos_text::put_parts($out, &[$($parts)*]) };
+    (@parts $out:expr, [$($parts:tt)*]) => { $out.put(&[$($parts)*]) };
     (@parts $out:expr, [$($parts:tt)*] $text:literal {$n:expr} $($rest:tt)*) => {
-        put!(@parts $out, [$($parts)* geos_text::Part::Numbered($text, $n as u64),] $($rest)*)
+        put!(@parts $out, [$($parts)* crate::saying::Part::Numbered($text, $n as u64),] $($rest)*)
     };
     (@parts $out:expr, [$($parts:tt)*] $text:literal $($rest:tt)*) => {
-        put!(@parts $out, [$($parts)* geos_text::Part::Text($text),] $($rest)*)
+        put!(@parts $out, [$($parts)* crate::saying::Part::Text($text),] $($rest)*)
     };
     (@parts $out:expr, [$($parts:tt)*] [$text:expr] $($rest:tt)*) => {
-        put!(@parts $out, [$($parts)* geos_text::Part::Text($text),] $($rest)*)
+        put!(@parts $out, [$($parts)* crate::saying::Part::Text($text),] $($rest)*)
     };
-    (@parts $out:expr, [$($parts:tt)*] bytes($bytes:expr) $($rest:tt)*) => {
-        put!(@parts $out, [$($parts)* geos_text::Part::Bytes($bytes),] $($rest)*)
+    (@parts $out:expr, [$($parts:tt)*] name($name:expr) $($rest:tt)*) => {
+        put!(@parts $out, [$($parts)* crate::saying::Part::Name($name),] $($rest)*)
+    };
+    (@parts $out:expr, [$($parts:tt)*] at($pc:expr) $($rest:tt)*) => {
+        put!(@parts $out, [$($parts)* crate::saying::Part::At($pc),] $($rest)*)
+    };
+    (@parts $out:expr, [$($parts:tt)*] slot($a:expr, $state:expr) $($rest:tt)*) => {
+        put!(@parts $out, [$($parts)* crate::saying::Part::Slot($a, $state),] $($rest)*)
     };
     (@parts $out:expr, [$($parts:tt)*] ($part:expr) $($rest:tt)*) => {
         put!(@parts $out, [$($parts)* $part,] $($rest)*)
@@ -36,13 +40,11 @@ macro_rules! zipped {
     }};
 }
 
-/// What was to be written was, or an allocation was refused.
-type Done = Result<(), AllocError>;
-
 mod arrivals;
 mod budgets;
 mod calls;
 mod causes;
+mod cures;
 mod diagnostics;
 mod explained;
 mod explanation;
@@ -53,12 +55,12 @@ mod held;
 mod lacks;
 mod led;
 mod notes;
-mod numbers;
 mod place;
 mod public;
 mod refusals;
 mod repeated;
 mod routines;
+mod saying;
 mod since;
 mod stale;
 mod steps;

@@ -13,8 +13,6 @@ use geos_image::{Instr, Potential, Routine, Row};
 #[derive(Clone, Copy)]
 pub(crate) struct Place<'a> {
     pub image: &'a Filled<'a>,
-    /// The line of each instruction in an author's text; else nothing.
-    pub lines: &'a [u32],
     pub r: u16,
     pub routine: &'a Routine,
     pub pc: u16,

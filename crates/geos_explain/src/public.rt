@@ -5,8 +5,7 @@ ghost use Rattle.geos_verify.specs.Rows.{is_empty};
 ghost use Rattle.geos_explain.specs.Public.{own_only, own_slots, marked_only, marked_slots, held_pairs, known_pointers};
 ghost use Rattle.geos_explain.specs.Public.{missing_only, missing_slots, kept_only, kept_slots, NoFaultsWhereItMayEnterAndLeave};
 
-use crate::Done;
-use crate::numbers::put_also;
+use crate::saying::Saying;
 use geos_image::{Routine, Row, SlotState};
 use geos_verify::is_empty;
 
@@ -134,53 +133,54 @@ fn kept_slots(entry: &Row, exit: &Row) -> Row
     kept
 }
 
-/// What the entry row wants that not every caller from outside has.
-fn put_entry_faults(out: &mut Vec<u8>, entry: &Row) -> Done {
-    put_also(
-        out,
-        &own_slots(entry),
-        " held in the in line, and not borrowed",
-    )?;
-    put_also(
-        out,
-        &marked_slots(entry),
-        " marked in the in line, which no caller from outside promises",
-    )?;
-    put_also(
-        out,
-        &held_pairs(entry),
-        " known in the in line, and a caller from outside may lend one block twice",
-    )?;
-    put_also(out, &known_pointers(entry), " known in the in line")
-}
-
 /// Slots that the row has borrowed are missing in the exit row.
-pub(crate) fn put_missing(out: &mut Vec<u8>, row: &Row, exit: &Row) -> Done {
-    put_also(
-        out,
+pub(crate) fn put_missing(out: &mut Saying, row: &Row, exit: &Row) {
+    out.put_also(
         &missing_slots(row, exit),
+        "",
         " borrowed from the caller, and missing in the out line",
     )
 }
 
-/// What the exit row lacks of what was borrowed, and what else it holds or knows.
-fn put_exit_faults(out: &mut Vec<u8>, entry: &Row, exit: &Row) -> Done {
-    put_missing(out, entry, exit)?;
-    put_also(
-        out,
-        &kept_slots(entry, exit),
-        " held in the out line, and not borrowed in both lines",
-    )?;
-    put_also(out, &known_pointers(exit), " known in the out line")
+/// What the entry row requires that not every caller from outside has.
+fn put_entry_faults(out: &mut Saying, entry: &Row) {
+    out.put_also(
+        &own_slots(entry),
+        " in the in line",
+        " not borrowed: lock the block in this routine, or omit public",
+    );
+    out.put_also(
+        &marked_slots(entry),
+        " in the in line",
+        " marked, which no caller from outside ensures: mark by VDIRTY",
+    );
+    out.put_also(
+        &held_pairs(entry),
+        " in the in line",
+        " not ensured by callers from outside, who may pass one block twice: use SNE",
+    );
+    out.put_also(
+        &known_pointers(entry),
+        " in the in line",
+        " not passed by callers from outside: fetch pointers in this routine",
+    )
 }
 
 /// How a public routine begins and ends, and what the rows of this one say otherwise.
-pub(crate) fn put_public(out: &mut Vec<u8>, routine: &Routine) -> Done {
-    out.extend_from_slice(
-        b" a public routine begins and ends with empty or borrowed slots and stale pointers",
-    )?;
-    put_entry_faults(out, &routine.entry)?;
-    put_exit_faults(out, &routine.entry, &routine.exit)
+pub(crate) fn put_public(out: &mut Saying, routine: &Routine) {
+    put!(out; " a public routine begins and ends with empty or borrowed slots and stale pointers");
+    put_entry_faults(out, &routine.entry);
+    put_missing(out, &routine.entry, &routine.exit);
+    out.put_also(
+        &kept_slots(&routine.entry, &routine.exit),
+        " in the out line",
+        " not borrowed in both lines: unlock before the return",
+    );
+    out.put_also(
+        &known_pointers(&routine.exit),
+        " in the out line",
+        " not taken by callers from outside: leave pointers out",
+    )
 }
 
 /// A law: there is nothing to say against the rows of a public routine exactly where a caller from outside may enter and leave by them.

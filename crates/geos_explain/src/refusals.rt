@@ -1,13 +1,13 @@
 //! Which refusals are told at a place.
 
-ghost use Rattle.std.specs.Prelude.{◌≡◌, ◌<◌, count_by, length};
+ghost use Rattle.std.specs.Prelude.{◌≡◌, ◌<◌, length};
 ghost use Rattle.geos_explain.specs.Told.{is_of_budget, told_rule, is_told, rule_at, most_told, IsFirstUntold};
 ghost use Rattle.geos_explain.specs.Refusals.{is_last, ToldWhereRefused};
 
-use crate::Done;
 use crate::explained::Explained;
 use crate::place::Place;
 use crate::routines::{ExplainedRoutine, place_at};
+use crate::saying::Saying;
 use crate::words::put_refusal_line;
 use geos_image::Routine;
 use geos_verify::{Rule, over_budget};
@@ -50,10 +50,14 @@ pub(crate) fn rule_at(refused: &[Option<Rule>], pc: u16) -> Option<Rule>
 }
 
 /// At how many pcs a rule is told.
-fn count_all(refused: &[Option<Rule>]) -> usize
-    ensures { result ≡ count_by is_told refused.now }
-{
-    refused.iter().filter(|rule| is_told(*rule)).count()
+fn count_all(refused: &[Option<Rule>]) -> usize {
+    let mut count: usize = 0;
+    for rule in refused {
+        if is_told(rule) {
+            count = count.saturating_add(1);
+        }
+    }
+    count
 }
 
 /// How many refusals are told of an image of so many instructions, so that it takes no longer than the longest image may:
@@ -80,8 +84,11 @@ pub(crate) fn first_untold(refused: &[Option<Rule>], most: usize) -> usize
     refused.len()
 }
 
-/// What is told where the rule refuses the place: what is wrong, or that others are not told.
-fn put_refused(out: &mut Vec<u8>, explained: &Explained, place: &Place, rule: Rule) -> Done {
+/// What is told if a rule refuses the place: what is wrong, or that others are not told.
+pub(crate) fn put_refusal(out: &mut Saying, explained: &Explained, place: &Place) {
+    let Some(rule) = rule_at(explained.refused, place.pc) else {
+        return;
+    };
     let pc = usize::from(place.pc);
     if pc < explained.untold {
         put_refusal_line(out, place, rule)
@@ -89,16 +96,6 @@ fn put_refused(out: &mut Vec<u8>, explained: &Explained, place: &Place, rule: Ru
         let told = most_told(place.image.len());
         let more = count_all(explained.refused).saturating_sub(told);
         put!(out; "; .. and " {more} " more from here on\n")
-    } else {
-        Ok(())
-    }
-}
-
-/// The same, if a rule refuses the place.
-pub(crate) fn put_refusal(out: &mut Vec<u8>, explained: &Explained, place: &Place) -> Done {
-    match rule_at(explained.refused, place.pc) {
-        Some(rule) => put_refused(out, explained, place, rule),
-        None => Ok(()),
     }
 }
 
@@ -109,25 +106,14 @@ fn is_last(start: u16, routine: &Routine, pc: u16) -> bool
     start <= pc && u32::from(pc) + 1 == u32::from(start) + u32::from(routine.count)
 }
 
-/// The line of the refusal by the rule on the budget, where it refuses the first place of a routine, which begins at `start`.
-fn put_over_from(out: &mut Vec<u8>, within: &ExplainedRoutine, start: u16) -> Done
-    requires { start < length within.now.explained.now.image.now.points }
-{
-    let first = place_at(within, start);
-    if over_budget(first.pc, first.routine, first.pc, first.potential) {
-        put_refusal_line(out, &first, Rule::OverBudget)
-    } else {
-        Ok(())
-    }
-}
-
-/// The same behind the last instruction of the routine.
-pub(crate) fn put_over_budget(out: &mut Vec<u8>, within: &ExplainedRoutine, pc: u16) -> Done {
+/// After the last instruction of the routine the line of the refusal by the rule on the budget, if it refuses the first one.
+pub(crate) fn put_over_budget(out: &mut Saying, within: &ExplainedRoutine, pc: u16) {
     let start = within.explained.image.start(within.r);
     if is_last(start, within.routine, pc) {
-        put_over_from(out, within, start)
-    } else {
-        Ok(())
+        let first = place_at(within, start);
+        if over_budget(first.pc, first.routine, first.pc, first.potential) {
+            put_refusal_line(out, &first, Rule::OverBudget)
+        }
     }
 }
 

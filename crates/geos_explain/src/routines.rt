@@ -30,7 +30,6 @@ pub(crate) fn place_at<'a>(within: &ExplainedRoutine<'a>, pc: u16) -> Place<'a>
     let image = within.explained.image;
     Place {
         image,
-        lines: within.explained.lines,
         r: within.r,
         routine: within.routine,
         pc,

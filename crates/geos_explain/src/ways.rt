@@ -151,7 +151,7 @@ pub(crate) fn sets(i: &Instr, pointer: PointerUse, p: u8) -> bool
     }
 }
 
-/// Whether behind the instruction nothing counts of what was known before it.
+/// Whether after the instruction nothing counts of what was known before it.
 pub(crate) fn forgets(opcode: Opcode) -> bool
     ensures { result ≡ forgets opcode }
 {
@@ -161,14 +161,14 @@ pub(crate) fn forgets(opcode: Opcode) -> bool
     }
 }
 
-/// Whether the instruction loses the pointer on this edge: it is a call, or was to set it and was refused, or makes it
-/// stale, where it is known before, and not behind.
+/// Whether the instruction loses the pointer on this edge: it was to set it and was refused, or makes it stale: it is known before, and
+/// not after.
 pub(crate) fn loses(image: &Filled, followed: Followed, edge: Edge, point: &KnownPlace) -> bool
     requires { slice_get (places image.now) edge.from ≡ Some point.now }
     ensures { result ≡ loses image.now followed edge point.now }
 {
     let i = &point.instr;
-    if forgets(i.opcode) || (edge.branch && sets(i, i.opcode.uses().pointer, followed.p)) {
+    if edge.branch && sets(i, i.opcode.uses().pointer, followed.p) {
         return true;
     }
     let row = with_hint(&point.row, followed);

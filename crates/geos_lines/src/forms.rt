@@ -44,7 +44,7 @@ fn count(opcode: Opcode) -> usize {
     count
 }
 
-/// What stands before the noun of an operand, where so many came before it.
+/// What is before the noun of an operand, where so many came before it.
 fn joint(before: usize, all: usize) -> &'static str {
     if before == 0 {
         ""
@@ -93,9 +93,9 @@ fn put_example(out: &mut Vec<u8>, opcode: Opcode) -> Result<(), AllocError> {
 pub(crate) fn put_form(out: &mut Vec<u8>, opcode: Opcode) -> Result<(), AllocError> {
     put_text(out, opcode.word())?;
     if count(opcode) == 0 {
-        return put_text(out, " stands alone");
+        return put_text(out, " has no operands");
     }
-    put_text(out, " wants ")?;
+    put_text(out, " requires ")?;
     put_nouns(out, opcode)?;
     put_text(out, ", as ")?;
     put_example(out, opcode)

@@ -9,9 +9,12 @@ ghost use Rattle.geos_source.specs.Names as names;
 ghost use Rattle.geos_lines.specs.Forms.{fits, kinds_of, IsOperand, StopsHere, StopsAt};
 
 use crate::forms::{noun, put_form};
-use crate::sentences::{Wrong, put_above, put_quoted, put_text, put_too_much, put_word, put_wrong};
+use crate::sentences::{
+    COMMENT, Wrong, begins_comment, put_above, put_quoted, put_text, put_too_much, put_word,
+    put_wrong,
+};
 use crate::words::{Word, word_from};
-use geos_opcodes::{FIELDS, Opcode, Operand, operand_at};
+use geos_opcodes::{FIELDS, OPCODES, Opcode, Operand, operand_at};
 use geos_source::name_of;
 use geos_text::{NumberError, number_up_to, register};
 use std::alloc::AllocError;
@@ -25,14 +28,14 @@ pub(crate) enum Misfit {
     Above(u32),
 }
 
-/// Where the words behind an instruction stop being operands of it.
+/// Where the words after an instruction stop being operands of it.
 #[derive(Clone, Copy)]
 pub(crate) enum Stop<'a> {
-    /// At a word, where an operand of this kind is wanted.
+    /// At a word, where an operand of this kind is required.
     At(Word<'a>, Operand, Misfit),
-    /// At the end, where an operand of this kind is wanted.
+    /// At the end, where an operand of this kind is required.
     Missing(Operand),
-    /// At a word behind the operands.
+    /// At a word after the operands.
     TooMuch(Word<'a>),
     /// Nowhere. This is the last operand, if there is one.
     Nowhere(Option<Word<'a>>),
@@ -159,7 +162,7 @@ fn put_undefined(out: &mut Vec<u8>, opcode: Opcode, last: Option<Word>) -> Resul
     }
 }
 
-/// Appends that a word is missing which is wanted.
+/// Appends that a word is missing which is required.
 pub(crate) fn put_missing(out: &mut Vec<u8>, what: &str) -> Result<(), AllocError> {
     put_text(out, "; ")?;
     put_text(out, what)?;
@@ -223,7 +226,7 @@ fn in_right_letters(word: &[u8]) -> Option<&'static str> {
     }
 }
 
-/// Whether a word stands behind labels alone.
+/// Whether a word comes only after labels.
 fn is_behind_label(word: &[u8]) -> bool {
     word == b":".as_slice() || Opcode::from_word(word).is_some()
 }
@@ -235,15 +238,83 @@ fn put_label(out: &mut Vec<u8>, word: &[u8]) -> Result<(), AllocError> {
     put_text(out, " and a colon, in one word")
 }
 
+/// How many letters are the same at the beginning of two words, or at the end.
+fn common(word: &[u8], other: &[u8], backward: bool) -> usize {
+    let most = word.len().min(other.len());
+    for n in 0..most {
+        let (at, there) = if backward {
+            (word.len() - 1 - n, other.len() - 1 - n)
+        } else {
+            (n, n)
+        };
+        if word[at].to_ascii_uppercase() != other[there] {
+            return n;
+        }
+    }
+    most
+}
+
+/// Whether two letters of a word are those of one in capitals, in the other order.
+fn are_swapped(word: &[u8], other: &[u8], at: usize) -> bool {
+    let next = at.saturating_add(1);
+    match (word.get(at), word.get(next), other.get(at), other.get(next)) {
+        (Some(a), Some(b), Some(c), Some(d)) => {
+            a.to_ascii_uppercase() == *d && b.to_ascii_uppercase() == *c
+        }
+        _ => false,
+    }
+}
+
+/// Whether a word differs from one in capitals in one letter, which may be missing in one of them, or in the order of two.
+fn is_near(word: &[u8], other: &[u8]) -> bool {
+    let front = common(word, other, false);
+    let same = front.saturating_add(common(word, other, true));
+    let long = word.len().max(other.len());
+    let short = word.len().min(other.len());
+    if long == short && long == same.saturating_add(2) {
+        return are_swapped(word, other, front);
+    }
+    long <= short.saturating_add(1) && long <= same.saturating_add(1)
+}
+
+/// The opcode with such a word of at least three letters.
+fn nearest(word: &[u8]) -> Option<Opcode> {
+    for opcode in &OPCODES {
+        let other = opcode.word().as_bytes();
+        if other.len() > 2 && is_near(word, other) {
+            return Some(*opcode);
+        }
+    }
+    None
+}
+
+/// Whether a word is a name that begins with a small letter.
+fn is_small_name(word: &[u8]) -> bool {
+    match word.first() {
+        Some(letter) => letter.is_ascii_lowercase() && name_of(word).is_some(),
+        None => false,
+    }
+}
+
 /// Appends what else may have been meant by a word, a comment or a label.
 fn put_other(out: &mut Vec<u8>, word: &[u8], behind: Option<Word>) -> Result<(), AllocError> {
-    if word.starts_with(b"#") || word.starts_with(b"/") {
-        return put_text(out, ": a comment begins with ;");
+    if begins_comment(word) {
+        return put_text(out, COMMENT);
+    }
+    if word == b"public".as_slice() {
+        return put_text(
+            out,
+            ": public follows the name, as routine add public budget 3",
+        );
     }
     match behind {
         Some(next) if is_behind_label(next.bytes) && name_of(word).is_some() => {
             put_label(out, word)
         }
+        Some(next) if next.bytes.eq_ignore_ascii_case(b"equ") || next.bytes == b"=".as_slice() => {
+            put_text(out, ": numbers have no names; for #define run cpp -P first")
+        }
+        None if is_small_name(word) => put_label(out, word),
         _ => put_text(out, ", and none of routine, in and out"),
     }
 }
@@ -252,7 +323,12 @@ fn put_other(out: &mut Vec<u8>, word: &[u8], behind: Option<Word>) -> Result<(),
 fn put_meant(out: &mut Vec<u8>, word: Word, behind: Option<Word>) -> Result<(), AllocError> {
     put_word(out, word)?;
     put_text(out, " is no instruction")?;
-    match in_right_letters(word.bytes) {
+    let near = if behind.is_none() && is_small_name(word.bytes) {
+        None
+    } else {
+        nearest(word.bytes).map(|opcode| opcode.word())
+    };
+    match in_right_letters(word.bytes).or(near) {
         Some(right) => {
             put_text(out, ": say ")?;
             put_text(out, right)
@@ -261,7 +337,7 @@ fn put_meant(out: &mut Vec<u8>, word: Word, behind: Option<Word>) -> Result<(), 
     }
 }
 
-/// Appends what is wrong with the line of an instruction, that begins with a word.
+/// Appends what is wrong with the line of an instruction that begins with a word.
 pub(crate) fn put_instr(out: &mut Vec<u8>, line: &[u8], word: Word) -> Result<(), AllocError>
     requires { word.end ≤ length line.now }
 {

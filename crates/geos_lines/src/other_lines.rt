@@ -10,9 +10,9 @@ use std::alloc::AllocError;
 
 /// The form of a line that begins a routine.
 const ROUTINE: &str =
-    "routine wants a name, perhaps public, and a budget, as routine add public budget 3";
+    "routine requires a name, perhaps public, and a budget, as routine add public budget 3";
 
-/// Why a word does not fit behind `routine`.
+/// Why a word does not fit after `routine`.
 #[derive(Clone, Copy)]
 enum HeadStop<'a> {
     At(Word<'a>, Misfit),
@@ -30,7 +30,7 @@ fn budget_misfit(word: &[u8]) -> Option<Misfit> {
     }
 }
 
-/// Where the words of a line from an index on, behind `routine NAME`, stop being a budget.
+/// Where the words of a line from an index on, after `routine NAME`, stop being a budget.
 fn budget_stop(line: &[u8], from: usize) -> HeadStop
     requires { from ≤ length line.now }
 {
@@ -52,7 +52,7 @@ fn budget_stop(line: &[u8], from: usize) -> HeadStop
     }
 }
 
-/// Where the words of a line from an index on, behind `routine`, stop being those that are wanted.
+/// Where the words of a line from an index on, after `routine`, stop being those that are required.
 fn head_stop(line: &[u8], from: usize) -> HeadStop
     requires { from ≤ length line.now }
 {
@@ -74,7 +74,7 @@ fn head_stop(line: &[u8], from: usize) -> HeadStop
     }
 }
 
-/// Appends what is wrong with a line that begins a routine, whose words behind `routine` stand from an index on.
+/// Appends what is wrong with a line that begins a routine, whose words after `routine` begin at an index.
 pub(crate) fn put_routine(out: &mut Vec<u8>, line: &[u8], from: usize) -> Result<(), AllocError>
     requires { from ≤ length line.now }
 {
@@ -93,7 +93,7 @@ pub(crate) fn put_routine(out: &mut Vec<u8>, line: &[u8], from: usize) -> Result
     }
 }
 
-/// A number at the end of an item, if its front is right: behind `w0<=`, and behind `p0=s0:`.
+/// A number at the end of an item, if its front is right: after `w0<=`, and after `p0=s0:`.
 fn number_of_item(item: &[u8]) -> Option<&[u8]> {
     let (front, rest) = item.split_at(item.len().min(2));
     if register(b'w', 8, front).is_some() {
@@ -106,7 +106,7 @@ fn number_of_item(item: &[u8]) -> Option<&[u8]> {
     back.strip_prefix(b":")
 }
 
-/// What a slot may hold in an item.
+/// What a slot may have in an item.
 fn is_held(word: &[u8]) -> bool {
     matches!(
         word,
@@ -179,8 +179,8 @@ fn misnamed(text: &[u8]) -> Option<&'static str> {
     }
 }
 
-/// The form of an item that begins as this word does, or which registers there are, where it names one that there is not: in front, or
-/// behind `p0=` or `s0#`.
+/// The form of an item that begins as this word does, or which registers there are, if it names one that there is not: in front, or
+/// after `p0=` or `s0#`.
 fn form_of_item(item: &[u8]) -> &'static str {
     let (_, behind) = item.split_at(item.len().min(3));
     if let Some(saying) = misnamed(item).or(misnamed(behind)) {
@@ -210,7 +210,7 @@ fn put_item(out: &mut Vec<u8>, item: Word, misfit: Misfit) -> Result<(), AllocEr
     }
 }
 
-/// Appends which of the items of a line is none, the first that is so: they stand from an index on.
+/// Appends which of the items of a line is none, the first one: they begin at an index.
 pub(crate) fn put_items(out: &mut Vec<u8>, line: &[u8], from: usize) -> Result<(), AllocError>
     requires { from ≤ length line.now }
 {

@@ -29,26 +29,26 @@ pub(crate) enum Wrong {
 }
 
 impl Wrong {
-    /// What is said of it behind the word.
+    /// What is said of it after the word.
     fn text(self) -> &'static str {
         match self {
             Wrong::NoWord => " is no word: words are w0 to w7",
             Wrong::NoCounter => " is no counter: counters are k0 to k3",
             Wrong::NoSlot => " is no slot: slots are s0 to s3",
             Wrong::NoPointer => " is no pointer: pointers are p0 to p3",
-            Wrong::NoNumber => " is no number: a number has decimal digits alone",
+            Wrong::NoNumber => " is no number: a number has only decimal digits",
             Wrong::NoName =>
                 " is no name: a name has letters, digits and underscores, the first a letter",
-            Wrong::NoBudget => " stands where the word budget is wanted",
+            Wrong::NoBudget => " is not the word budget",
             Wrong::OpenBudget => " is no number: geos budget puts one there",
             Wrong::NoItem => " is no item",
             Wrong::NoLabel =>
-                " is no label: it has letters, digits and underscores, the first a letter, and a colon",
+                " is no label: a label has letters, digits and underscores, the first a letter, and a colon",
             Wrong::NoInstruction => " is no instruction, and none of routine, in and out",
         }
     }
 
-    /// The same without the reason, where another one is said.
+    /// The same without the reason, if another one is said.
     fn short_text(self) -> &'static str {
         match self {
             Wrong::NoWord => " is no word",
@@ -64,12 +64,23 @@ impl Wrong {
         }
     }
 
-    /// The most bytes that a word of the form has, where it is a name, with its colon if it is a label.
+    /// The most bytes that a word of the form has, if it is a name, with its colon if it is a label.
     fn most_bytes(self) -> usize {
         match self {
             Wrong::NoName => 16,
             Wrong::NoLabel => 17,
             _ => usize::MAX,
+        }
+    }
+
+    /// The letter of the registers of the form.
+    fn letter(self) -> u8 {
+        match self {
+            Wrong::NoWord => b'w',
+            Wrong::NoCounter => b'k',
+            Wrong::NoSlot => b's',
+            Wrong::NoPointer => b'p',
+            _ => b' ',
         }
     }
 }
@@ -79,7 +90,7 @@ pub(crate) fn put_text(out: &mut Vec<u8>, text: &str) -> Result<(), AllocError> 
     out.extend_from_slice(text.as_bytes())
 }
 
-/// Appends a byte of a word; where it is no printable character, by its digits.
+/// Appends a byte of a word; if it is no printable character, by its digits.
 fn put_byte(out: &mut Vec<u8>, byte: u8) -> Result<(), AllocError> {
     if byte.is_ascii_graphic() || byte == b' ' {
         out.push(byte)?;
@@ -106,21 +117,32 @@ pub(crate) fn put_quoted(out: &mut Vec<u8>, word: &[u8]) -> Result<(), AllocErro
     put_text(out, "\"")
 }
 
-/// Appends a word in quotation marks, and its column, in bytes from 1. `AllocError` where the allocator refuses memory.
+/// Appends a word in quotation marks, and its column, in bytes from 1. `AllocError` if the allocator refuses memory.
 pub fn put_word(out: &mut Vec<u8>, word: Word) -> Result<(), AllocError> {
     put_quoted(out, word.bytes)?;
     let column = word.start.saturating_add(1);
     put_numbered(out, " at column ", column as u64)
 }
 
+/// What helps if a word begins as a comment does in other languages.
+pub(crate) const COMMENT: &str =
+    ": a comment begins with ;, and for lines as #define run cpp -P first";
+
+/// Whether a word begins as a comment does in other languages.
+pub(crate) fn begins_comment(word: &[u8]) -> bool {
+    word.starts_with(b"#") || word.starts_with(b"/") || word.starts_with(b"--")
+}
+
 /// What a word has that none may have, or that it is longer than this.
 pub(crate) fn hint(word: &[u8], most: usize) -> Option<&'static str> {
     if word.starts_with(b"\xef\xbb\xbf") {
-        Some(": the text begins with a byte order mark, which has to go")
+        Some(": take out the byte order mark at the beginning of the text")
     } else if word.contains(&b'\r') {
-        Some(": a line ends with LF or CR LF, and not with CR alone")
+        Some(": a line ends with LF or CR LF, and not with only CR")
     } else if word.contains(&b',') {
-        Some(": spaces part words, and no commas")
+        Some(": separate words by spaces, without commas")
+    } else if begins_comment(word) {
+        Some(COMMENT)
     } else if word.len() > most {
         Some(": a name has at most 16 letters, digits and underscores")
     } else {
@@ -128,23 +150,51 @@ pub(crate) fn hint(word: &[u8], most: usize) -> Option<&'static str> {
     }
 }
 
-/// Whether a word has digits and commas alone.
-fn has_digits_and_commas(word: &[u8]) -> bool {
-    for byte in word {
-        if !byte.is_ascii_digit() && *byte != b',' {
-            return false;
-        }
+/// What follows the reason for a word that is a register of another kind, or in capitals, or a number in place of a word.
+fn also(word: &[u8], wrong: Wrong) -> Option<&'static str> {
+    let letter = *word.first()?;
+    if letter.is_ascii_digit() && wrong.letter() == b'w' {
+        return Some(", and LDI puts a number into one");
     }
-    true
+    if word.len() != 2 || !word.get(1)?.is_ascii_digit() || letter == wrong.letter() {
+        return None;
+    }
+    match letter {
+        b'w' => Some(", and this is a word"),
+        b'k' => Some(", and this is a counter, which SETK and SETKW set"),
+        b's' => Some(", and this is a slot"),
+        b'p' => Some(", and this is a pointer, which LDB and LDW read through, and MOVP copies"),
+        b'W' | b'K' | b'S' | b'P' => Some(", with a small letter"),
+        _ => None,
+    }
 }
 
-/// What helps with a word in the place of what its form is to be.
-fn help(word: &[u8], wrong: Wrong) -> Option<&'static str> {
-    match wrong {
-        Wrong::NoName if label_of(word).is_some() => Some(": it stands here without the colon"),
-        Wrong::NoNumber if has_digits_and_commas(word) => None,
-        _ => hint(word, wrong.most_bytes()),
+/// What helps with a word in place of a number.
+fn number_hint(word: &[u8]) -> Option<&'static str> {
+    if word.starts_with(b"0x") || word.starts_with(b"0X") {
+        Some(": write it in decimal digits, as 31 for 0x1f")
+    } else if word.starts_with(b"-") {
+        Some(": add 65536 to a negative number, as 65535 for -1")
+    } else if word.starts_with(b"'") {
+        Some(": write the code of a character, as 97 for 'a'")
+    } else if word
+        .iter()
+        .all(|byte| byte.is_ascii_digit() || *byte == b',')
+    {
+        Some(": a number has only decimal digits")
+    } else {
+        None
     }
+}
+
+/// What helps with a word in place of what its form is to be.
+fn help(word: &[u8], wrong: Wrong) -> Option<&'static str> {
+    let own = match wrong {
+        Wrong::NoName if label_of(word).is_some() => Some(": write it here without the colon"),
+        Wrong::NoNumber => number_hint(word),
+        _ => None,
+    };
+    own.or(hint(word, wrong.most_bytes()))
 }
 
 /// Appends what is wrong with a word of a line.
@@ -155,7 +205,10 @@ pub(crate) fn put_wrong(out: &mut Vec<u8>, word: Word, wrong: Wrong) -> Result<(
             put_text(out, wrong.short_text())?;
             put_text(out, help)
         }
-        None => put_text(out, wrong.text()),
+        None => {
+            put_text(out, wrong.text())?;
+            put_text(out, also(word.bytes, wrong).unwrap_or(""))
+        }
     }
 }
 
@@ -168,7 +221,7 @@ pub(crate) fn put_above(out: &mut Vec<u8>, word: Word, bound: u32) -> Result<(),
 /// Appends that a word is one too many.
 pub(crate) fn put_too_much(out: &mut Vec<u8>, word: Word) -> Result<(), AllocError> {
     put_word(out, word)?;
-    put_text(out, " is too much")?;
+    put_text(out, " is one too many")?;
     match hint(word.bytes, usize::MAX) {
         Some(hint) => put_text(out, hint),
         None => Ok(()),

@@ -13,15 +13,19 @@ use std::alloc::{AllocError, Global};
 /// Appends the sentence on a name that was used before.
 fn put_twice(out: &mut Vec<u8>, twice: Twice) -> Result<(), AllocError> {
     put_word(out, twice.word)?;
-    let what = if twice.is_label {
-        " is a label already, of line "
+    let (what, cure) = if twice.is_label {
+        (
+            " is a label already, on line ",
+            ": labels hold for the whole text, so choose another name",
+        )
     } else {
-        " is a routine already, of line "
+        (" is a routine already, on line ", ": choose another name")
     };
-    put_numbered(out, what, twice.first as u64)
+    put_numbered(out, what, twice.first as u64)?;
+    put_text(out, cure)
 }
 
-/// What a line begins behind its labels.
+/// What a line begins after its labels.
 #[derive(Clone, Copy)]
 enum Beginning {
     Routine,
@@ -49,15 +53,15 @@ impl Beginning {
         }
     }
 
-    /// What is said of a line that stands where it may not.
+    /// What is said of a line that is where it may not be.
     fn misplaced(self) -> &'static str {
         match self {
             Beginning::Routine => "the routine has no instruction",
             Beginning::In =>
-                "in stands once, behind the line that begins a routine and before its instructions",
+                "in comes once, with all its items, after the line that begins a routine and before its instructions",
             Beginning::Out =>
-                "out stands once, behind the line that begins a routine and before its instructions",
-            Beginning::Instr => "the instruction stands before any line routine NAME budget N",
+                "out comes once, with all its items, after the line that begins a routine and before its instructions",
+            Beginning::Instr => "the instruction comes before any line routine NAME budget N",
             Beginning::Nothing => "the text has no line routine NAME budget N",
         }
     }
@@ -74,7 +78,7 @@ fn too_many(number: usize, statement: Statement) -> &'static str {
     }
 }
 
-/// What is wrong with where the line stands.
+/// What is wrong with where the line is.
 fn put_misplaced(out: &mut Vec<u8>, statement: Statement) -> Result<(), AllocError> {
     let beginning = Beginning::of(statement);
     match statement.label {

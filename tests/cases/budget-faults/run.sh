@@ -1,5 +1,5 @@
 # A text that has a fault, or no rows, gets no budgets: the fault is that of `asm`, at the same line, and OUT is as it was. Nor does one with
-# a CALL of a routine that does not stand before its own: the first such line is named. Nor one with a LOOP that takes from a counter which
+# a CALL of a routine that does not come before its own: the first such line is named. Nor one with a LOOP that takes from a counter which
 # nothing sets on a way to it; but where a LOOP leads ahead, no steps are owed for what is in its counter.
 export LC_ALL=C
 folder=$(mktemp -d)

@@ -1,0 +1,264 @@
+//! Why what a row requires is not known at a place, item by item, and what makes it known.
+
+ghost use Rattle.std.specs.Prelude.{◌<◌};
+ghost use Rattle.geos_explain.specs.Forgotten.{IsForgottenBy};
+ghost use Rattle.geos_explain.specs.Places.{place_of};
+
+use crate::calls::{Change, change_of, forbids};
+use crate::forgotten::{Item, forgetting_call, knows, last_moving};
+use crate::lacks::as_marked;
+use crate::led::is_reached;
+use crate::place::Place;
+use crate::saying::{Part, Saying};
+use crate::stale::{name_at, put_traced};
+use crate::uses::{mark_word, put_ask_wish, put_bounding, unlocking};
+use geos_image::{Opcode, Pointer, Row, SlotState};
+use geos_verify::{Place as KnownPlace, are_alike, is_empty, pointer_at, slot_fits, slot_state};
+
+/// The slots of each pair of a row.
+const PAIRS: [(u8, u8); 6] = [(0, 1), (0, 2), (0, 3), (1, 2), (1, 3), (2, 3)];
+
+/// The item as it is in a line `in` or `out`. Of a word that is changed after the CALL, before which this row is known, the bound there; of
+/// a slot that is to have a block, what it has there.
+fn item_parts(
+    place: &Place,
+    item: Item,
+    row: &Row,
+) -> (Part<'static>, Part<'static>, Part<'static>) {
+    match item {
+        Item::Bound(w, most) => {
+            let before = match row.bounds.get(usize::from(w)) {
+                Some(bound) if last_moving(place, item, w).is_some() => *bound,
+                _ => most,
+            };
+            (
+                Part::Numbered(" w", w as u64),
+                Part::Numbered("<=", before as u64),
+                Part::Text(""),
+            )
+        }
+        Item::Slot(a, state) => (Part::Slot(a, state), Part::Text(""), Part::Text("")),
+        Item::Held(a) => (
+            Part::Slot(a, slot_state(row, a)),
+            Part::Text(""),
+            Part::Text(""),
+        ),
+        Item::Leads(p, pointer) => (
+            Part::Numbered(" p", p as u64),
+            Part::Numbered("=s", pointer.slot as u64),
+            Part::Numbered(":", pointer.least as u64),
+        ),
+        Item::Apart(pair) => match PAIRS.get(usize::from(pair)) {
+            Some(slots) => (
+                Part::Numbered(" s", slots.0 as u64),
+                Part::Numbered("#s", slots.1 as u64),
+                Part::Text(""),
+            ),
+            None => (Part::Text(""), Part::Text(""), Part::Text("")),
+        },
+    }
+}
+
+/// The item is to be said in the lines of a routine.
+fn put_say(out: &mut Saying, place: &Place, item: Item, row: &Row, name: &[u8]) {
+    let (first, second, third) = item_parts(place, item, row);
+    put!(out; ": say" (first) (second) (third) " in the in and out lines of " name(name))
+}
+
+/// A pointer is to be fetched again, or said in the lines of a routine that leaves its slot.
+fn put_again(out: &mut Saying, p: u8, pointer: Pointer, change: Change, name: &[u8]) {
+    put!(out; ": fetch p" {p} " again after it");
+    if let Change::Leaves = change {
+        put!(out;
+            ", or, if " name(name) " moves nothing in s" {pointer.slot} ", say p" {p} "=s" {pointer.slot} ":"
+            {pointer.least} " in the in and out lines of " name(name)
+        )
+    }
+}
+
+/// A routine changes the slot itself.
+fn put_changed(out: &mut Saying, a: u8, change: Change, name: &[u8]) {
+    let (does, cure) = match change {
+        Change::Locks => (
+            " locks a block into s",
+            " itself: lock this one into another slot",
+        ),
+        _ => (" unlocks s", ": lock it again after the CALL"),
+    };
+    put!(out; ", and " name(name) [does] "" {a} [cure])
+}
+
+/// A slot is to be unlocked before a CALL, for this reason.
+fn put_before(out: &mut Saying, a: u8, state: SlotState, name: &[u8], why: &'static str) {
+    put!(out;
+        ": " [unlocking(state)] " s" {a} " before it, and lock it again after it, since " name(name) [why]
+    )
+}
+
+/// What helps where a CALL of routine r forgets what a slot had.
+fn put_slot_wish(out: &mut Saying, place: &Place, item: Item, a: u8, r: u16, row: &Row) {
+    let name = name_at(place.image, r);
+    let known = slot_state(row, a);
+    match (forbids(place.image, r, known), change_of(place.image, r, a)) {
+        (Some(why), _) => put_before(out, a, known, name, why),
+        (None, Change::Leaves) => put_say(out, place, item, row, name),
+        (None, change) => put_changed(out, a, change, name),
+    }
+}
+
+/// What helps where a CALL of routine r forgets the item, which the row knows: to say it in the lines of that routine, unless the routine
+/// changes its slot; a pointer may be fetched again.
+pub(crate) fn put_kept_wish(out: &mut Saying, place: &Place, item: Item, r: u16, row: &Row) {
+    match item {
+        Item::Slot(a, _) | Item::Held(a) => put_slot_wish(out, place, item, a, r, row),
+        Item::Leads(p, pointer) => {
+            let change = change_of(place.image, r, pointer.slot);
+            put_again(out, p, pointer, change, name_at(place.image, r))
+        }
+        _ => put_say(out, place, item, row, name_at(place.image, r)),
+    }
+}
+
+/// A CALL forgets the item, and what helps.
+fn put_forgotten_at(out: &mut Saying, place: &Place, item: Item, from: u16, point: &KnownPlace)
+    requires { IsForgottenBy (place_of place.now) item from }
+{
+    let r = point.instr.imm;
+    put!(out; "; CALL at" at(from) " leaves only what the out line of " name(name_at(place.image, r)) " says");
+    put_kept_wish(out, place, item, r, &point.row)
+}
+
+/// The CALL that forgets the item on a way to the place, if there is one. Whether there is.
+pub(crate) fn put_forgotten(out: &mut Saying, place: &Place, item: Item) -> bool {
+    match forgetting_call(place, item) {
+        Some(from) => match place.image.place(from) {
+            Some(point) => {
+                put_forgotten_at(out, place, item, from, point);
+                true
+            }
+            None => false,
+        },
+        None => false,
+    }
+}
+
+/// Why a bound is not known that the row requires, and what makes it known.
+fn put_bound_cure(out: &mut Saying, place: &Place, wanted: &Row, w: u8)
+    requires { w < 8 }
+{
+    let most = wanted.bounds[usize::from(w)];
+    if most < place.row.bounds[usize::from(w)] {
+        put_forgotten(out, place, Item::Bound(w, most));
+        put_bounding(out, w, most)
+    }
+}
+
+/// The block of a slot is to be marked.
+fn put_marking(out: &mut Saying, a: u8, state: SlotState) {
+    put!(out; "; " [mark_word(state)] " s" {a} " before this marks it")
+}
+
+/// What a slot is to have that it does not have, and that no CALL took: at a return, or elsewhere.
+fn put_locking(out: &mut Saying, place: &Place, wanted: SlotState, a: u8) {
+    let known = slot_state(place.row, a);
+    let returns = matches!(place.i.opcode, Opcode::Ret);
+    let (words, cure) = if !wanted.is_own() {
+        ("; what is borrowed has to stay in", "")
+    } else if returns {
+        (
+            "; on each path to this return lock a block into",
+            ", or leave it out of the out line",
+        )
+    } else if is_empty(known) {
+        ("; first lock a block into", "")
+    } else {
+        (
+            "; lock a block of the kind that is required, or require the one that is in",
+            "",
+        )
+    };
+    put!(out; [words] " s" {a} [cure])
+}
+
+/// The same of what a slot has.
+fn put_slot_cure(out: &mut Saying, place: &Place, wanted: &Row, a: u8) {
+    let state = slot_state(wanted, a);
+    let known = slot_state(place.row, a);
+    if is_empty(state) || slot_fits(known, state) {
+        return;
+    }
+    let forgotten = put_forgotten(out, place, Item::Slot(a, state));
+    if slot_fits(as_marked(known), state) {
+        put_marking(out, a, known)
+    } else if !forgotten {
+        put_locking(out, place, state, a)
+    }
+}
+
+/// The pointer leads into another slot.
+fn put_other_slot(out: &mut Saying, p: u8, known: u8, wanted: u8) {
+    put!(out; "; p" {p} " leads into s" {known} ": fetch it from s" {wanted})
+}
+
+/// The same of where a pointer leads. Whether it was followed back, which `follows` allows.
+fn put_pointer_cure(out: &mut Saying, place: &Place, wanted: &Row, p: u8, follows: bool) -> bool {
+    let Some(pointer) = pointer_at(wanted, p) else {
+        return false;
+    };
+    let item = Item::Leads(p, pointer);
+    if knows(place.row, item) || put_forgotten(out, place, item) {
+        return false;
+    }
+    match pointer_at(place.row, p) {
+        Some(known) if known.slot == pointer.slot => {
+            put_ask_wish(out, place, p, u32::from(pointer.least));
+            false
+        }
+        Some(known) => {
+            put_other_slot(out, p, known.slot, pointer.slot);
+            false
+        }
+        None if follows => {
+            put_traced(out, place, Some(p));
+            true
+        }
+        None => false,
+    }
+}
+
+/// Two slots are to be compared.
+fn put_comparing(out: &mut Saying, a: u8, b: u8) {
+    put!(out; "; SNE s" {a} " s" {b} " L before this tells them apart")
+}
+
+/// The same of two slots that are to have different blocks.
+fn put_pair_cure(out: &mut Saying, place: &Place, wanted: &Row, pair: u8)
+    requires { pair < 6 }
+{
+    let n = usize::from(pair);
+    if wanted.pairs[n] && !place.row.pairs[n] {
+        put_forgotten(out, place, Item::Apart(pair));
+        let (a, b) = PAIRS[n];
+        let state = slot_state(place.row, a);
+        if !is_empty(state) && are_alike(state, slot_state(place.row, b)) {
+            put_comparing(out, a, b)
+        }
+    }
+}
+
+/// Why what a row requires is not known at the place, and what makes it known. The first pointer of which nothing is known is followed back.
+pub(crate) fn put_cures(out: &mut Saying, place: &Place, wanted: &Row) {
+    for w in 0..8 {
+        put_bound_cure(out, place, wanted, w);
+    }
+    let mut follows = is_reached(place.image, place.marks, place.pc);
+    for k in 0..4 {
+        put_slot_cure(out, place, wanted, k);
+        if put_pointer_cure(out, place, wanted, k, follows) {
+            follows = false;
+        }
+    }
+    for pair in 0..6 {
+        put_pair_cure(out, place, wanted, pair);
+    }
+}
