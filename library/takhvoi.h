@@ -162,6 +162,9 @@ TAKHVOI_CALL uint32_t takhvoi_is_sure(takhvoi_kernel *kernel, uint16_t *sure);
 TAKHVOI_CALL uint32_t takhvoi_mnew(takhvoi_kernel *kernel, uint16_t *handle);
 TAKHVOI_CALL uint32_t takhvoi_mlock(takhvoi_kernel *kernel, uint16_t handle);
 TAKHVOI_CALL uint32_t takhvoi_mfree(takhvoi_kernel *kernel, uint16_t handle);
+/* The handles of all blocks of memory, in rising order. Each call that lists tells in `count` how many handles there are. As many as there is
+ * room for are written to `into`, and the rest of `into` is left as it was. */
+TAKHVOI_CALL uint32_t takhvoi_mlist(takhvoi_kernel *kernel, uint16_t *into, size_t room, uint32_t *count);
 /* Blocks of either owner, and groups. */
 TAKHVOI_CALL uint32_t takhvoi_unlock(takhvoi_kernel *kernel, takhvoi_block block);
 TAKHVOI_CALL uint32_t takhvoi_locks(takhvoi_kernel *kernel, takhvoi_block block, uint16_t *count);
@@ -175,6 +178,8 @@ TAKHVOI_CALL uint32_t takhvoi_lins(takhvoi_kernel *kernel, takhvoi_block block, 
 TAKHVOI_CALL uint32_t takhvoi_ldel(takhvoi_kernel *kernel, takhvoi_block block, uint16_t chunk, uint16_t at, uint16_t len);
 TAKHVOI_CALL uint32_t takhvoi_lcontract(takhvoi_kernel *kernel, takhvoi_block block);
 TAKHVOI_CALL uint32_t takhvoi_lsize(takhvoi_kernel *kernel, takhvoi_block block, uint16_t chunk, uint16_t *len);
+/* The handles of all chunks, of a group those of its items. */
+TAKHVOI_CALL uint32_t takhvoi_llist(takhvoi_kernel *kernel, takhvoi_block block, uint16_t *into, size_t room, uint32_t *count);
 TAKHVOI_CALL uint32_t takhvoi_read(takhvoi_kernel *kernel, takhvoi_block block, uint16_t chunk, uint16_t at, uint8_t *into, size_t len);
 TAKHVOI_CALL uint32_t takhvoi_write(takhvoi_kernel *kernel, takhvoi_block block, uint16_t chunk, uint16_t at, const uint8_t *from, size_t len);
 
@@ -200,6 +205,9 @@ TAKHVOI_CALL uint32_t takhvoi_vdirty(takhvoi_kernel *kernel, uint16_t handle);
 TAKHVOI_CALL uint32_t takhvoi_vfree(takhvoi_kernel *kernel, uint16_t handle);
 TAKHVOI_CALL uint32_t takhvoi_vfind(takhvoi_kernel *kernel, uint16_t above, uint16_t user_id, uint16_t *handle);
 TAKHVOI_CALL uint32_t takhvoi_vuid(takhvoi_kernel *kernel, uint16_t handle, uint16_t *user_id);
+/* The handles of all blocks and groups of the file. The user ID of a group is TAKHVOI_GROUP_ID. */
+TAKHVOI_CALL uint32_t takhvoi_vlist(takhvoi_kernel *kernel, uint16_t *into, size_t room, uint32_t *count);
+#define TAKHVOI_GROUP_ID 65280
 TAKHVOI_CALL uint32_t takhvoi_vgetmap(takhvoi_kernel *kernel, uint16_t *handle);
 TAKHVOI_CALL uint32_t takhvoi_vsetmap(takhvoi_kernel *kernel, uint16_t handle);
 
@@ -214,6 +222,8 @@ TAKHVOI_CALL uint32_t takhvoi_idel(takhvoi_kernel *kernel, uint16_t group, uint1
 /* Locks the group where it has the item, and tells the item's length: then its items are read and written as chunks of TAKHVOI_VM(group),
  * which is marked before they are written, and unlocked in the end. */
 TAKHVOI_CALL uint32_t takhvoi_ilock(takhvoi_kernel *kernel, uint16_t group, uint16_t item, uint16_t *len);
+/* The items of a group, which is brought into memory and is as it was afterwards. It answers as ilock does if the group does not come. */
+TAKHVOI_CALL uint32_t takhvoi_ilist(takhvoi_kernel *kernel, uint16_t group, uint16_t *into, size_t room, uint32_t *count);
 TAKHVOI_CALL uint32_t takhvoi_igetmap(takhvoi_kernel *kernel, uint16_t *group, uint16_t *item);
 TAKHVOI_CALL uint32_t takhvoi_isetmap(takhvoi_kernel *kernel, uint16_t group, uint16_t item);
 
@@ -257,10 +267,17 @@ TAKHVOI_CALL uint32_t takhvoi_run(takhvoi_kernel *kernel, uint32_t image, uint16
                                   uint16_t *output, size_t room, uint32_t *count, uint32_t *steps);
 
 /* Texts and images, as bytes. `told` is how many bytes come, also where the buffer is too short; or what is at fault: the line of a text
- * (BAD_IMAGE: a faulty line, REFUSED: a routine for which no rows are found), or the offset in an image (BAD_IMAGE). */
+ * (BAD_IMAGE: a faulty line, REFUSED: a routine for which no rows are found), or the offset in an image (BAD_IMAGE). The bytes are written to the
+ * beginning of `into`, whose rest is left as it was; if the call is not done, all of it is. */
 TAKHVOI_CALL uint32_t takhvoi_assemble(const uint8_t *text, size_t text_len, uint8_t *into, size_t room, uint64_t *told);
 TAKHVOI_CALL uint32_t takhvoi_list(const uint8_t *image, size_t image_len, uint8_t *into, size_t room, uint64_t *told);
 TAKHVOI_CALL uint32_t takhvoi_explain(const uint8_t *image, size_t image_len, uint8_t *into, size_t room, uint64_t *told);
+/* Explains a text, as `geos explain` does: its lines with what is known at each instruction, and why the verifier refuses its image, if it does;
+ * or what is wrong with each faulty line; or why no rows are found. `line` is 0 if the verifier accepts the image. Otherwise it is the first
+ * faulty line, or the line of the routine that has no rows, or that of the first instruction that is refused, which takhvoi_load tells as
+ * `place`. `column` counts bytes of that line from 1, and is 0 if the whole line is meant. Both are told with SHORT_BUFFER too. */
+TAKHVOI_CALL uint32_t takhvoi_explain_text(const uint8_t *text, size_t text_len, uint8_t *into, size_t room, uint64_t *told, uint64_t *line,
+                                           uint64_t *column);
 
 /* Files of the system. */
 #include "takhvoi_file.h"

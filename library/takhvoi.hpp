@@ -54,6 +54,19 @@ protected:
     std::uint16_t chunk_;
 };
 
+/// All handles that a call lists, in as much room as it wants.
+template <typename Call> Result<std::vector<std::uint16_t>> listed(Call call) {
+    std::vector<std::uint16_t> into(1024);
+    for (;;) {
+        std::uint32_t count = 0;
+        const std::uint32_t status = call(into.data(), into.size(), &count);
+        if (status != TAKHVOI_DONE) return Fault{status};
+        const bool is_whole = count <= into.size();
+        into.resize(count);
+        if (is_whole) return into;
+    }
+}
+
 /// What gives back a lock, an image, a kernel.
 struct Unlock {
     takhvoi_block block;
@@ -173,6 +186,11 @@ public:
         auto made = detail::told<std::uint16_t>([&](std::uint16_t *chunk) { return takhvoi_canew(kernel(), block(), element_size, chunk); });
         if (!made) return made.fault();
         return array(*made);
+    }
+    /// The handles of all its chunks; of a group, those of its items.
+    Result<std::vector<std::uint16_t>> chunks() const {
+        return detail::listed(
+            [&](std::uint16_t *into, std::size_t room, std::uint32_t *count) { return takhvoi_llist(kernel(), block(), into, room, count); });
     }
     Chunk chunk(std::uint16_t handle) const & noexcept { return Chunk(kernel(), block(), handle); }
     Array array(std::uint16_t handle) const & noexcept { return Array(kernel(), block(), handle); }
@@ -322,6 +340,18 @@ public:
     }
     Result<void> set_map_block(Name name) { return detail::ended(takhvoi_vsetmap(get(), name.handle())); }
 
+    /// The handles of all blocks of memory; of all blocks and groups of the VM file; and of all items of a group.
+    Result<std::vector<std::uint16_t>> blocks() const {
+        return detail::listed([&](std::uint16_t *into, std::size_t room, std::uint32_t *count) { return takhvoi_mlist(get(), into, room, count); });
+    }
+    Result<std::vector<std::uint16_t>> file_blocks() const {
+        return detail::listed([&](std::uint16_t *into, std::size_t room, std::uint32_t *count) { return takhvoi_vlist(get(), into, room, count); });
+    }
+    Result<std::vector<std::uint16_t>> items(std::uint16_t group) const {
+        return detail::listed(
+            [&](std::uint16_t *into, std::size_t room, std::uint32_t *count) { return takhvoi_ilist(get(), group, into, room, count); });
+    }
+
     /// Makes a group of items. The calls on its items bring it into memory and mark it by themselves.
     Result<std::uint16_t> make_group() {
         return detail::told<std::uint16_t>([&](std::uint16_t *group) { return takhvoi_gnew(get(), group); });
@@ -430,6 +460,22 @@ inline Result<std::vector<std::uint8_t>> assemble(Bytes text) { return detail::m
 /// The listing of an image; the same with what is known at each instruction, and where it is refused, why.
 inline Result<std::string> list(Bytes image) { return detail::made<std::string>(image, takhvoi_list); }
 inline Result<std::string> explain(Bytes image) { return detail::made<std::string>(image, takhvoi_explain); }
+
+/// What there is to say of a text. `line` is that of the first thing that is wrong, 0 if the verifier accepts its image; `column` counts from 1,
+/// and is 0 if the whole line is meant.
+struct Explanation {
+    std::string text;
+    std::uint64_t line;
+    std::uint64_t column;
+};
+inline Result<Explanation> explain_text(Bytes text) {
+    std::uint64_t line = 0, column = 0;
+    auto made = detail::made<std::string>(text, [&](const std::uint8_t *from, std::size_t size, std::uint8_t *into, std::size_t room, std::uint64_t *told) {
+        return takhvoi_explain_text(from, size, into, room, told, &line, &column);
+    });
+    if (!made) return made.fault();
+    return Explanation{std::move(*made), line, column};
+}
 
 } // namespace takhvoi
 #endif

@@ -38,6 +38,8 @@ void locks(Kernel &kernel) {
     check(kernel.free(name).status() == TAKHVOI_LOCKED, "a locked block is not freed");
     Kernel moved = std::move(kernel);
     check(block.make_chunk(3).has_value(), "a block stays where the kernel is moved");
+    check(block.chunks().value() == std::vector<std::uint16_t>{16}, "its chunks");
+    check(moved.blocks().value().size() == 2 && moved.file_blocks().value().empty(), "blocks");
     kernel = std::move(moved);
     { const LockedBlock last = std::move(block); }
     check(kernel.free(name).has_value(), "a block is freed");
@@ -89,6 +91,8 @@ void routines(Kernel &kernel) {
     check(add.run({}, {&memory}, put, 1).status() == TAKHVOI_NOT_ADMITTED, "no block of memory is lent");
     check(loaded.routine("sub").status() == TAKHVOI_NOT_ADMITTED, "no such routine");
     check(list(image).value().find("routine add") != std::string::npos && explain(image).value().find("ADD") != std::string::npos, "texts");
+    auto said = explain_text("routine f public budget 1\n ldi w0 5\n");
+    check(said.has_value() && said->line == 2 && said->column == 2 && !said->text.empty(), "what is wrong with a text");
     const auto bad = assemble("routine f public budget 1\n x\n");
     check(bad.status() == TAKHVOI_BAD_IMAGE && bad.fault().place == 2, "the line of a fault");
     check(kernel.load("none").status() == TAKHVOI_BAD_IMAGE, "no image");

@@ -102,6 +102,9 @@ _CALLS = {
     (U32, U16, U16, U16, _ROOM, _SIZE): "caread",
     (U32, U16, U16, U16, _BYTES, _SIZE): "cawrite",
     (_BYTES, _SIZE, _OUT32, _OUT64, _OUT32): "load",
+    (_OUT16, _SIZE, _OUT32): "mlist vlist",
+    (U16, _OUT16, _SIZE, _OUT32): "ilist",
+    (U32, _OUT16, _SIZE, _OUT32): "llist",
     (U32, U16, _OUT16, _OUT16, _OUT16, _SIZE, _OUT32, _OUT32): "file_run",
 }
 _TEXT_CALLS = "assemble list explain"
@@ -117,7 +120,8 @@ def _find() -> str:
 
 def _declared(library: ctypes.CDLL) -> ctypes.CDLL:
     takers = [((_KERNEL, *takes), names) for takes, names in _CALLS.items()]
-    for takes, names in [*takers, ((_BYTES, _SIZE, _ROOM, _SIZE, _OUT64), _TEXT_CALLS)]:
+    on_texts = (_BYTES, _SIZE, _ROOM, _SIZE, _OUT64)
+    for takes, names in [*takers, (on_texts, _TEXT_CALLS), ((*on_texts, _OUT64, _OUT64), "explain_text")]:
         for name in names.split():
             call = getattr(library, "takhvoi_" + name)
             call.argtypes, call.restype = takes, U32

@@ -26,7 +26,7 @@ from _takhvoi import BAD_FILE, BAD_IMAGE, NO_KERNEL, NOT_ADMITTED, NOT_LOCKED, R
 from _takhvoi import Error, RawFile, bytes_of, library, room, sixteen
 
 __version__ = "0.1.0"
-__all__ = ["Array", "Chunk", "Error", "Image", "Kernel", "LockedBlock", "Outcome", "assemble", "explain", "list_image"]
+__all__ = ["Array", "Chunk", "Error", "Explanation", "Image", "Kernel", "LockedBlock", "Outcome", "assemble", "explain", "explain_text", "list_image"]
 
 REGION = 1 << 20
 AREA = 1 << 16
@@ -101,6 +101,27 @@ class Kernel:
         number = U16()
         self._call(name, *given, number)
         return number.value
+
+    def _listed(self, name: str, *given: object) -> list[int]:
+        room = 1024
+        while True:
+            into, count = (U16 * room)(), U32()
+            self._call(name, *given, into, room, count)
+            if count.value <= room:
+                return into[: count.value]
+            room = count.value
+
+    def blocks(self) -> list[int]:
+        """The handles of all blocks of memory."""
+        return self._listed("mlist")
+
+    def file_blocks(self) -> list[int]:
+        """The handles of all blocks and groups of the VM file. The user ID of a group is 65,280."""
+        return self._listed("vlist")
+
+    def items(self, group: int) -> list[int]:
+        """The items of a group, which is brought into memory."""
+        return self._listed("ilist", sixteen(group))
 
     def make_block(self) -> LockedBlock:
         """Makes a block of memory, and locks it."""
@@ -271,6 +292,10 @@ class LockedBlock:
     def make_array(self, element_size: int = 0) -> Array:
         """Makes an array of elements of one size, or of sizes of their own where that is 0."""
         return self.array(self._kernel._told("canew", self._given(), sixteen(element_size)))
+
+    def chunks(self) -> list[int]:
+        """The handles of all its chunks; of a group, those of its items."""
+        return self._kernel._listed("llist", self._given())
 
     def chunk(self, handle: int) -> Chunk:
         """The chunk with a handle; its calls say where there is none."""
@@ -475,3 +500,21 @@ def list_image(image: Data) -> str:
 def explain(image: Data) -> str:
     """The listing of an image with what is known at each instruction, and where the verifier refuses it, why."""
     return _made(library.takhvoi_explain, bytes(image)).decode()
+
+
+class Explanation(NamedTuple):
+    """What there is to say of a text. `line` is that of the first thing that is wrong, or None if the verifier accepts its image; `column` counts
+    from 1, and is None if the whole line is meant."""
+
+    text: str
+    line: Optional[int]
+    column: Optional[int]
+
+
+def explain_text(text: Union[str, Data]) -> Explanation:
+    """The lines of a text with what is known at each instruction, and why the verifier refuses its image, if it does; or what is wrong with each
+    faulty line; or why no rows are found."""
+    line, column = ctypes.c_uint64(), ctypes.c_uint64()
+    given = text.encode() if isinstance(text, str) else bytes(text)
+    said = _made(lambda *takes: library.takhvoi_explain_text(*takes, line, column), given)
+    return Explanation(said.decode(errors="replace"), line.value or None, column.value or None)

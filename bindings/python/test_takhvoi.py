@@ -162,6 +162,10 @@ class Blocks(unittest.TestCase):
         image = takhvoi.assemble("routine f public budget 1\n RET\n")
         self.assertIn("routine f", takhvoi.list_image(image))
         self.assertIn("RET", takhvoi.explain(image))
+        said = takhvoi.explain_text("routine f public budget 1\n RET\n")
+        self.assertIn("RET", said.text)
+        self.assertEqual((said.line, said.column), (None, None))
+        self.assertEqual(takhvoi.explain_text("routine f public budget 1\n ldi w0 5\n")[1:], (2, 2))
         for call, number, place in (
             (lambda: takhvoi.assemble("routine f public budget x"), 112, 1),
             (lambda: takhvoi.assemble("\nroutine f public budget 9\nagain:\n JMP again\n"), 113, 2),
@@ -170,6 +174,20 @@ class Blocks(unittest.TestCase):
             with self.assertRaises(Error) as refused:
                 call()
             self.assertEqual((refused.exception.number, refused.exception.place), (number, place))
+
+
+    def test_lists(self) -> None:
+        kernel = self.kernel
+        with kernel.make_block() as block, kernel.make_file_block(1) as of_file:
+            chunks = [block.make_chunk(2).handle for _ in range(3)]
+            self.assertEqual(block.chunks(), chunks)
+            self.assertEqual(kernel.blocks(), [block.handle])
+            group = kernel.make_group()
+            self.assertEqual(kernel.file_blocks(), [of_file.handle, group])
+            items = [kernel.make_item(group, 1) for _ in range(2)]
+            self.assertEqual(kernel.items(group), items)
+        with self.refuses(1):
+            kernel.items(99)
 
 
 class Threads(unittest.TestCase):
@@ -258,7 +276,7 @@ class Header(unittest.TestCase):
         for name in ("NO_KERNEL", "NOT_LOCKED", "BAD_SIZE", "BAD_FILE", "BAD_IMAGE", "REFUSED", "NOT_ADMITTED", "SHORT_BUFFER"):
             self.assertEqual(numbers[name], getattr(_takhvoi, name))
         declared = set(re.findall(r"uint32_t takhvoi_(\w+)\(", header))
-        called = {name for names in [*_takhvoi._CALLS.values(), _takhvoi._TEXT_CALLS, "abi"] for name in names.split()}
+        called = {name for names in [*_takhvoi._CALLS.values(), _takhvoi._TEXT_CALLS, "explain_text abi"] for name in names.split()}
         # What stands on these in the file's calls.
         below = {"close", "update", "save", "revert", "create", "open", "run", "step", "step_bytes", "performed", "file_flush"}
         self.assertEqual(declared - below, called)

@@ -2,7 +2,7 @@
 
 use crate::chunks::{Array, ArrayMut, Chunk, ChunkMut};
 use crate::error::{done, Error, Result};
-use crate::kernel::{told, Kernel, Name};
+use crate::kernel::{listed, told, Kernel, Name};
 use crate::raw;
 use std::ops::Deref;
 
@@ -23,6 +23,11 @@ impl Locked<'_> {
     /// The block's name.
     pub fn name(&self) -> Name {
         self.name
+    }
+
+    /// The handles of all its chunks; of a group, those of its items.
+    pub fn chunks(&self) -> Result<Vec<u16>> {
+        listed(|into, room, count| unsafe { raw::takhvoi_llist(self.kernel.raw(), self.name.block(), into, room, count) })
     }
 
     /// The chunk with a handle; its calls say where there is none.

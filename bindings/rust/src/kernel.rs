@@ -83,6 +83,20 @@ pub(crate) fn told(call: impl FnOnce(*mut u16) -> u32) -> Result<u16> {
     done(call(&mut number)).map(|()| number)
 }
 
+/// All handles that a call lists, in as much room as it wants.
+pub(crate) fn listed(call: impl Fn(*mut u16, usize, *mut u32) -> u32) -> Result<Vec<u16>> {
+    let mut into = vec![0; 1024];
+    loop {
+        let mut count = 0;
+        done(call(into.as_mut_ptr(), into.len(), &mut count))?;
+        let is_whole = count as usize <= into.len();
+        into.resize(count as usize, 0);
+        if is_whole {
+            return Ok(into);
+        }
+    }
+}
+
 impl Kernel {
     fn none() -> Result<Kernel> {
         static NEXT: AtomicU64 = AtomicU64::new(0);
@@ -179,6 +193,21 @@ impl Kernel {
     /// Whether a block of the VM file, or a group, is marked.
     pub fn is_marked(&self, handle: u16) -> Result<bool> {
         told(|marked| unsafe { raw::takhvoi_marked(self.raw(), handle, marked) }).map(|marked| marked != 0)
+    }
+
+    /// The handles of all blocks of memory.
+    pub fn blocks(&self) -> Result<Vec<u16>> {
+        listed(|into, room, count| unsafe { raw::takhvoi_mlist(self.raw(), into, room, count) })
+    }
+
+    /// The handles of all blocks and groups of the VM file. The user ID of a group is 65,280.
+    pub fn file_blocks(&self) -> Result<Vec<u16>> {
+        listed(|into, room, count| unsafe { raw::takhvoi_vlist(self.raw(), into, room, count) })
+    }
+
+    /// The items of a group, which is brought into memory.
+    pub fn items(&self, group: u16) -> Result<Vec<u16>> {
+        listed(|into, room, count| unsafe { raw::takhvoi_ilist(self.raw(), group, into, room, count) })
     }
 
     /// The first block of the VM file above a handle that has a user ID.

@@ -120,4 +120,4 @@ pub use chunks::{Array, ArrayMut, Chunk, ChunkMut};
 pub use error::{Error, Result};
 pub use images::{Image, Lent, Outcome, Routine};
 pub use kernel::{Kernel, Memory, Name, Sizes, VmFile};
-pub use texts::{assemble, explain, list};
+pub use texts::{assemble, explain, explain_text, list, Explanation};

@@ -41,6 +41,7 @@ extern "C" {
     pub fn takhvoi_mnew(kernel: *mut RawKernel, handle: *mut u16) -> u32;
     pub fn takhvoi_mlock(kernel: *mut RawKernel, handle: u16) -> u32;
     pub fn takhvoi_mfree(kernel: *mut RawKernel, handle: u16) -> u32;
+    pub fn takhvoi_mlist(kernel: *mut RawKernel, into: *mut u16, room: usize, count: *mut u32) -> u32;
     pub fn takhvoi_unlock(kernel: *mut RawKernel, block: u32) -> u32;
     pub fn takhvoi_locks(kernel: *mut RawKernel, block: u32, count: *mut u16) -> u32;
     pub fn takhvoi_marked(kernel: *mut RawKernel, handle: u16, marked: *mut u16) -> u32;
@@ -51,6 +52,7 @@ extern "C" {
     pub fn takhvoi_ldel(kernel: *mut RawKernel, block: u32, chunk: u16, at: u16, len: u16) -> u32;
     pub fn takhvoi_lcontract(kernel: *mut RawKernel, block: u32) -> u32;
     pub fn takhvoi_lsize(kernel: *mut RawKernel, block: u32, chunk: u16, len: *mut u16) -> u32;
+    pub fn takhvoi_llist(kernel: *mut RawKernel, block: u32, into: *mut u16, room: usize, count: *mut u32) -> u32;
     pub fn takhvoi_read(kernel: *mut RawKernel, block: u32, chunk: u16, at: u16, into: *mut u8, len: usize) -> u32;
     pub fn takhvoi_write(kernel: *mut RawKernel, block: u32, chunk: u16, at: u16, from: *const u8, len: usize) -> u32;
     pub fn takhvoi_canew(kernel: *mut RawKernel, block: u32, element_size: u16, chunk: *mut u16) -> u32;
@@ -69,6 +71,7 @@ extern "C" {
     pub fn takhvoi_vfree(kernel: *mut RawKernel, handle: u16) -> u32;
     pub fn takhvoi_vfind(kernel: *mut RawKernel, above: u16, user_id: u16, handle: *mut u16) -> u32;
     pub fn takhvoi_vuid(kernel: *mut RawKernel, handle: u16, user_id: *mut u16) -> u32;
+    pub fn takhvoi_vlist(kernel: *mut RawKernel, into: *mut u16, room: usize, count: *mut u32) -> u32;
     pub fn takhvoi_vgetmap(kernel: *mut RawKernel, handle: *mut u16) -> u32;
     pub fn takhvoi_vsetmap(kernel: *mut RawKernel, handle: u16) -> u32;
     pub fn takhvoi_gnew(kernel: *mut RawKernel, group: *mut u16) -> u32;
@@ -79,6 +82,7 @@ extern "C" {
     pub fn takhvoi_iins(kernel: *mut RawKernel, group: u16, item: u16, at: u16, len: u16) -> u32;
     pub fn takhvoi_idel(kernel: *mut RawKernel, group: u16, item: u16, at: u16, len: u16) -> u32;
     pub fn takhvoi_ilock(kernel: *mut RawKernel, group: u16, item: u16, len: *mut u16) -> u32;
+    pub fn takhvoi_ilist(kernel: *mut RawKernel, group: u16, into: *mut u16, room: usize, count: *mut u32) -> u32;
     pub fn takhvoi_igetmap(kernel: *mut RawKernel, group: *mut u16, item: *mut u16) -> u32;
     pub fn takhvoi_isetmap(kernel: *mut RawKernel, group: u16, item: u16) -> u32;
     pub fn takhvoi_update(kernel: *mut RawKernel) -> u32;
@@ -104,6 +108,15 @@ extern "C" {
     pub fn takhvoi_assemble(text: *const u8, text_len: usize, into: *mut u8, room: usize, told: *mut u64) -> u32;
     pub fn takhvoi_list(image: *const u8, image_len: usize, into: *mut u8, room: usize, told: *mut u64) -> u32;
     pub fn takhvoi_explain(image: *const u8, image_len: usize, into: *mut u8, room: usize, told: *mut u64) -> u32;
+    pub fn takhvoi_explain_text(
+        text: *const u8,
+        text_len: usize,
+        into: *mut u8,
+        room: usize,
+        told: *mut u64,
+        line: *mut u64,
+        column: *mut u64,
+    ) -> u32;
     pub fn takhvoi_file_flush(file: *mut RawFile) -> u32;
     pub fn takhvoi_file_close(file: *mut RawFile) -> u32;
     pub fn takhvoi_file_open(file: *mut RawFile, path: *const c_char, region: u32, fault: *mut u64) -> u32;

@@ -4,12 +4,12 @@ use crate::error::{done, Error, Result};
 use crate::raw;
 
 /// What one of these calls makes, in as much room as it wants; or the status and the place of a fault.
-fn made(from: &[u8], call: unsafe extern "C" fn(*const u8, usize, *mut u8, usize, *mut u64) -> u32) -> std::result::Result<Vec<u8>, (u32, u64)> {
+fn made(from: &[u8], mut call: impl FnMut(*const u8, usize, *mut u8, usize, *mut u64) -> u32) -> std::result::Result<Vec<u8>, (u32, u64)> {
     const SHORT_BUFFER: u32 = 115;
     let mut into = vec![0; 1 << 16];
     loop {
         let mut told = 0;
-        let status = unsafe { call(from.as_ptr(), from.len(), into.as_mut_ptr(), into.len(), &mut told) };
+        let status = call(from.as_ptr(), from.len(), into.as_mut_ptr(), into.len(), &mut told);
         match status {
             0 => {
                 into.truncate(told as usize);
@@ -47,15 +47,46 @@ fn fault(status: u32, bad: Error, refused: Error) -> Error {
 /// # }
 /// ```
 pub fn assemble(text: impl AsRef<[u8]>) -> Result<Vec<u8>> {
-    made(text.as_ref(), raw::takhvoi_assemble).map_err(|(status, line)| fault(status, Error::BadText { line }, Error::NoRows { line }))
+    made(text.as_ref(), |text, len, into, room, told| unsafe { raw::takhvoi_assemble(text, len, into, room, told) })
+        .map_err(|(status, line)| fault(status, Error::BadText { line }, Error::NoRows { line }))
 }
 
 /// The listing of an image, an assembly text.
 pub fn list(image: &[u8]) -> Result<Vec<u8>> {
-    made(image, raw::takhvoi_list).map_err(|(status, offset)| fault(status, Error::BadImage { offset }, Error::Other(status)))
+    made(image, |image, len, into, room, told| unsafe { raw::takhvoi_list(image, len, into, room, told) })
+        .map_err(|(status, offset)| fault(status, Error::BadImage { offset }, Error::Other(status)))
 }
 
 /// The listing of an image with what is known at each instruction, and where the verifier refuses it, why.
 pub fn explain(image: &[u8]) -> Result<Vec<u8>> {
-    made(image, raw::takhvoi_explain).map_err(|(status, offset)| fault(status, Error::BadImage { offset }, Error::Other(status)))
+    made(image, |image, len, into, room, told| unsafe { raw::takhvoi_explain(image, len, into, room, told) })
+        .map_err(|(status, offset)| fault(status, Error::BadImage { offset }, Error::Other(status)))
+}
+
+/// What there is to say of an assembly text.
+#[derive(Clone, Debug, PartialEq, Eq)]
+pub struct Explanation {
+    /// Its lines with what is known at each instruction, and why the verifier refuses its image, if it does; or what is wrong with each faulty
+    /// line; or why no rows are found.
+    pub text: Vec<u8>,
+    /// The line of the first thing that is wrong; `None` if the verifier accepts the image.
+    pub line: Option<u64>,
+    /// The column in that line, from 1; `None` if the whole line is meant.
+    pub column: Option<u64>,
+}
+
+/// What there is to say of an assembly text, with the place of the first thing that is wrong.
+///
+/// ```
+/// let said = takhvoi::explain_text("routine f public budget x\n")?;
+/// assert_eq!(said.line, Some(1));
+/// # Ok::<(), takhvoi::Error>(())
+/// ```
+pub fn explain_text(text: impl AsRef<[u8]>) -> Result<Explanation> {
+    let (mut line, mut column) = (0, 0);
+    let made = made(text.as_ref(), |text, len, into, room, told| unsafe {
+        raw::takhvoi_explain_text(text, len, into, room, told, &mut line, &mut column)
+    });
+    let text = made.map_err(|(status, _)| fault(status, Error::Other(status), Error::Other(status)))?;
+    Ok(Explanation { text, line: (line != 0).then_some(line), column: (column != 0).then_some(column) })
 }

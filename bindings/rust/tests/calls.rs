@@ -1,6 +1,6 @@
 //! The calls, as a program uses them.
 
-use takhvoi::{assemble, explain, list, Error, Kernel, Locked, Name, Result, Sizes};
+use takhvoi::{assemble, explain, explain_text, list, Error, Kernel, Locked, Name, Result, Sizes};
 
 fn kernel() -> Kernel {
     Kernel::in_memory(Sizes::default()).expect("there is memory")
@@ -146,10 +146,28 @@ fn a_routine_borrows_a_block() -> Result<()> {
 }
 
 #[test]
+fn handles_are_listed() -> Result<()> {
+    let kernel = kernel();
+    let mut block = kernel.make_block()?;
+    let chunks = [block.mark()?.make_chunk(2)?, block.mark()?.make_chunk(2)?];
+    assert_eq!(block.chunks()?, chunks);
+    assert_eq!(kernel.blocks()?, [block.name().handle()]);
+    let group = kernel.make_group()?;
+    let item = kernel.make_item(group, 1)?;
+    assert_eq!(kernel.file_blocks()?, [group]);
+    assert_eq!(kernel.items(group)?, [item]);
+    assert_eq!(kernel.items(group + 1), Err(Error::BadHandle));
+    Ok(())
+}
+
+#[test]
 fn texts_and_images_say_what_is_at_fault() -> Result<()> {
     let image = assemble("routine f public budget 1\n RET\n")?;
     assert!(String::from_utf8_lossy(&list(&image)?).contains("routine f"));
     assert!(String::from_utf8_lossy(&explain(&image)?).contains("RET"));
+    let said = explain_text("routine f public budget 1\n ldi w0 5\n")?;
+    assert_eq!((said.line, said.column), (Some(2), Some(2)));
+    assert_eq!(explain_text("routine f public budget 1\n RET\n")?.line, None);
     let kernel = kernel();
     assert_eq!(kernel.load(b"none").err(), Some(Error::BadImage { offset: 0 }));
     assert_eq!(list(&image[..image.len() - 1]).map_err(Error::number), Err(112));

@@ -1,8 +1,12 @@
 pub mod Calling
+pub mod Found
+pub mod Grouped
+pub mod Looking
 pub mod Named
 pub mod Notes
 pub mod Numbers
 pub mod Refusing
+pub mod Relocked
 pub mod Shapes
 pub mod Starting
 pub mod Steps

@@ -15,8 +15,9 @@ abbrev pub IsStatus : {A : Type 0} → Result A Refusal → ℕ → Type 0
 IsStatus (Ok a) status = status ≡ 0
 IsStatus (Err refusal) status = status ≡ refusal_number refusal
 
--- the device was read at most: it gives the same bytes, each step that was noted is still noted, and performing them leads a host as before.
--- A host that is stopped meanwhile is left with nothing that it might not have been left with before, so no more than a sync is noted
+-- the device was read at most: it gives the same bytes, each step that was noted is still noted, and performing what is noted leads a host as
+-- before. A host that is stopped meanwhile is left with nothing that it might not have been left with before. Which steps were noted beside
+-- them, as a sync, is not said
 pub record ReadsDevice (old new : System) : Type 0 where
   pub bytes : bytes_of new.kernel.device ≡ bytes_of old.kernel.device
   pub goes_on : GoesOn old.kernel.device new.kernel.device

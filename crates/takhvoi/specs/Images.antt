@@ -1,6 +1,7 @@
 -- What loading and running images come to.
 use Rattle.std.specs.Prelude.{◌≡◌, ◌⊎◌, ◌≤◌, ℕ, [], false, true, Some, None, IfSome, IsSomeAnd, List, length, take, unwrap_or, slice_get}
 use Rattle.std.specs.Prelude.{Ok}
+use Rattle.lmem_raw.specs.Bytes.{with_part}
 use Rattle.geos_image.specs.Legal.{text_end}
 use Rattle.geos_image.specs.Parts.{Parts}
 use Rattle.geos_image.specs.Reading.{image_at}
@@ -67,8 +68,8 @@ abbrev pub MayNotRun : ℕ → ℕ → List ℕ → List ℕ → ℕ → System 
 MayNotRun n routine words handles status s = NotAdmitted n routine words handles status s ⊎ IsPending status s
 
 -- the number stands for a checked image, of which the model's run, on these words and with these blocks lent, met no fault and came to
--- such words, such an output in front of the buffer, so long, and so many steps; nothing was noted before it; what it noted leads a host to what
--- the device holds; and a host that is stopped while it performs that has what the run had as kept in one of its states
+-- such words, such an output at the beginning of the buffer, whose rest stays, so long, and so many steps; nothing was noted before it; what it
+-- noted leads a host to what the device holds; and a host that is stopped while it performs that has what the run had as kept in one of its states
 pub record HasRun (n routine : ℕ) (words handles after room output : List ℕ) (count steps status : ℕ) (old new : System) : Type 0 where
   pub done : status ≡ 0
   pub image : Parts
@@ -84,7 +85,7 @@ pub record HasRun (n routine : ℕ) (words handles after room output : List ℕ)
       → OpensAsOneOf (kept_along image (ran f is).ran.choices (begin image routine words handles (memory_of old.kernel.core f))) c
   pub alone : old.hosted ≡ false → journal_of new.kernel.device ≡ []
   pub words_out : after ≡ outcome.words
-  pub put_out : take (length outcome.output.items) output ≡ take (length room) outcome.output.items
+  pub put_out : output ≡ with_part room 0 outcome.output.items
   pub count_is : count ≡ length outcome.output.items
   pub steps_are : steps ≡ outcome.steps
   pub within : IfSome (slice_get image.routines routine) (λ r. steps ≤ r.budget)

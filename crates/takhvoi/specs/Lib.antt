@@ -3,6 +3,7 @@ pub mod Bytes
 pub mod Held
 pub mod Images
 pub mod Journal
+pub mod Lists
 pub mod Names
 pub mod Own
 pub mod Room

@@ -1,11 +1,25 @@
 -- What calls on texts and images give.
-use Rattle.std.specs.Prelude.{◌≡◌, ◌<◌, ◌⊎◌, ℕ, true, List, length, Ok}
+use Rattle.std.specs.Prelude.{◌≡◌, ◌<◌, ◌≤◌, ◌⊎◌, ℕ, true, List, length, Ok, slice_index_or}
+use Rattle.lmem_raw.specs.Bytes.{with_part}
 use Rattle.geos_image.specs.Parts.{Parts}
 use Rattle.geos_image.specs.Reading.{image_at}
 use Rattle.geos_listing.specs.Listing.{listing}
 use Rattle.geos_source.specs.declared.fault.BadLine as fault
-use Rattle.geos_asm.specs.Assembling.{IsAssembled, IsWhyNoImage}
+use Rattle.geos_source.specs.InstrLines.{instr_lines}
+use Rattle.geos_verify.specs.declared.rule.Reject.{Reject}
+use Rattle.geos_verify.specs.Rules.{FirstRefusal, IsChecked}
+use Rattle.geos_asm.specs.Assembling.{HasNoRows, IsAssembled, IsWhyNoImage}
 use Rattle.geos_asm.specs.declared.error.AssembleError.TheVariants.{BadLine}
+
+-- bytes were written at the beginning of a buffer that has room for them, and the rest of it is as it was; it is told how many they are
+pub record IsPutInto (bytes : List ℕ) (told : ℕ) (old new : List ℕ) : Type 0 where
+  pub fits : length bytes ≤ length old
+  pub written : new ≡ with_part old 0 bytes
+  pub count : told ≡ length bytes
+
+-- what was wanted was written so
+abbrev pub Gives : (List ℕ → Type 0) → ℕ → List ℕ → List ℕ → Type 0
+Gives wanted told old new = (bytes : List ℕ) × wanted bytes × IsPutInto bytes told old new
 
 -- what was wanted has so many bytes, more than there is room for
 abbrev pub IsLonger : (List ℕ → Type 0) → ℕ → ℕ → Type 0
@@ -27,6 +41,21 @@ HasFaultAt text line = (bad : fault.BadLine) × IsWhyNoImage text (BadLine bad) 
 abbrev pub IsListedAs : List ℕ → List ℕ → Type 0
 IsListedAs bytes text = (image : Parts) × (image_at bytes ≡ Ok image) × (text ≡ listing image)
 
--- the bytes spell an image
-abbrev pub SpellsImage : List ℕ → Type 0
-SpellsImage bytes = (image : Parts) × (image_at bytes ≡ Ok image)
+-- the bytes spell an image, of which a text says something
+abbrev pub IsExplained : List ℕ → List ℕ → Type 0
+IsExplained bytes text = (image : Parts) × (image_at bytes ≡ Ok image)
+
+-- the verifier accepts an image of the text
+abbrev pub IsAccepted : List ℕ → Type 0
+IsAccepted text = (image : Parts) × IsAssembled text image × IsChecked image
+
+-- the verifier refuses an image of the text, and the first instruction that it refuses is in this line
+abbrev pub IsRefusedAt : List ℕ → ℕ → Type 0
+IsRefusedAt text line = (image : Parts) × (reject : Reject) × IsAssembled text image × FirstRefusal image reject
+    × (line ≡ slice_index_or (instr_lines text) reject.pc 0)
+
+-- the line is that of the text's first fault, or of a routine for which no rows are found, or of the first instruction that is refused;
+-- and 0 if there is none of these
+abbrev pub IsJudged : List ℕ → ℕ → Type 0
+IsJudged text line =
+    ((line ≡ 0) × IsAccepted text) ⊎ (HasFaultAt text line ⊎ (HasNoRows text line ⊎ IsRefusedAt text line))

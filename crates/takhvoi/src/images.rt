@@ -1,7 +1,8 @@
 //! Images are loaded, and their routines run.
 
 ghost use Rattle.std.specs.Option.{option_copied};
-ghost use Rattle.std.specs.Prelude.{◌≡◌, ◌≤◌, ◌⊎◌, ℕ, Err, Some, IfNone, IfSome, IsSomeAnd, length, slice_get, take};
+ghost use Rattle.std.specs.Prelude.{◌≡◌, ◌≤◌, ◌⊎◌, ℕ, Err, Some, IfNone, IfSome, IsSomeAnd, length, slice_get};
+ghost use Rattle.lmem_raw.specs.Bytes.{with_part};
 ghost use Rattle.geos_image.specs.Parts.{Parts};
 ghost use Rattle.geos_image.specs.Reading.{image_at};
 ghost use Rattle.takhvoi.specs.Answers.{On};
@@ -168,9 +169,9 @@ fn image_of(images: &Vec<Option<Checked>>, number: u32) -> Option<&Checked>
     }
 }
 
-/// Copies the first words, as many as there is room for.
+/// Copies words to the beginning of a buffer, as many as there is room for.
 fn put_words(words: &[u16], into: &mut [u16])
-    ensures { take (length words.now) into.new ≡ take (length into.old) words.now }
+    ensures { into.new ≡ with_part into.old 0 words.now }
 {
     let n = words.len().min(into.len());
     into[..n].copy_from_slice(&words[..n]);

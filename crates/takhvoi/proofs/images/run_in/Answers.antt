@@ -1,6 +1,7 @@
 -- The run's kernel rests after it: what is seen of it stays, and with a host all of it.
-use Rattle.std.proofs.Common.{◌≡◌, ◌≤◌, [], Some, slice_get, length, take, refl, ap, sym, subst, arith, rules}
+use Rattle.std.proofs.Common.{◌≡◌, ◌≤◌, [], Some, slice_get, length, refl, ap, sym, subst, arith, rules}
 use Rattle.std.specs.Prelude.{IfSome}
+use Rattle.lmem_raw.specs.Bytes.{with_part}
 use Rattle.geos_calls.specs.VmFile.{VmFile}
 use Rattle.geos_kernel.specs.View.{IsFileOf, KernelOn}
 use Rattle.geos_machine.specs.Runs.{RanWith, Throughout}
@@ -21,8 +22,8 @@ returns c =
     let ran : (f : VmFile) → IsFileOf (Unit {0}) old.core f
     → RanWith (Unit {0}) (Throughout medium old.device left) image c.args.routine c.args.words.now c.args.handles.now
     old.core c.run_in_place-outcome.new.kernel.core outcome f = c.run_in_place-outcome.ensures.ran in
-    let put : take (length outcome.output.items) c.put_words.new.into ≡ take (length c.args.output.now) outcome.output.items =
-    subst (λ ws. take (length ws) c.put_words.new.into ≡ take (length c.args.output.now) ws) c.as_slice.ensures.value c.put_words.ensures in
+    let put : c.put_words.new.into ≡ with_part c.args.output.now 0 outcome.output.items =
+    subst (λ ws. c.put_words.new.into ≡ with_part c.args.output.now 0 ws) c.as_slice.ensures.value c.put_words.ensures in
     let count : c.len.result ≡ length outcome.output.items = search rules in
     let begins : journal_of old.device ≡ [] = c.is_performed.ensures.none (search rules) in
     let known = c.memory_is_legal.ensures.file in
