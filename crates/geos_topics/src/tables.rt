@@ -441,85 +441,86 @@ Example: ISETMAP w0 w1 undo_open    (in examples/notes.asm)";
 pub(crate) const OTHERS: &str = "\
 V1 LeavesRoutine
 It refuses: a branch or the fall-through leaves the routine.
-Example: line 11 stands outside of the routine
-Cure: end with RET or JMP; name only labels of the same routine.
+Example: line 11 is outside of this routine: name a label of this routine, or CALL the other
+one
 
 V2 NamesEmptySlot
 It refuses: a pointer of the row leads into an empty slot.
-Example: p0=s0:4 leads into an empty slot
-Cure: lock a block into the slot first; name the slot of each pointer in `in` and `out`.
+Example: p0=s0:4 leads into an empty slot: lock a block into the slot first, or say in the
+in line what the slot has
 
 V3 EntryMisfit
 It refuses: first pc: the entry row does not imply the row here; or the routine is public
 and its entry or exit row breaks the rules.
 Example: a public routine begins and ends with empty or borrowed slots and stale pointers;
-s0=mem is held in the in line, and not borrowed
+s0=mem in the in line is not borrowed: lock the block in this routine, or omit public
 Cure: in a public routine `in` and `out` have no pointers, and only borrowed slots: `vm@` in
-`in` without `#`, and the same slots, marked or not, in `out`.
+`in` without `#`, and the same, marked or not, in `out`.
 
 V4 StalePointer
 It refuses: a pointer that is read, written, copied (by MOVP too) or measured is stale.
-Example: p0 may be stale here; LFREE at line 14 may have moved what is behind p0: fetch it
-again
+Example: p0 may be stale here; LFREE at line 14 may have moved its chunk: fetch p0 again
 Cure: after an item call fetch pointers into every group again; fetch where paths meet. Tell
-slots apart by SNE. Add the pointer to the callee's `out`.
+slots apart by SNE.
 
 V5 PassesEnd
 It refuses: a read or a write may pass the least length of its pointer.
-Example: nothing is known of w0, the index, and w0<=7 is wanted: p0 is known to have 8
-bytes; CHK w0 7 L in front of this bounds it, LDCB tests it
-Cure: require more bytes in DEREF or CAELT; or bound the index by AND.
+Example: w0<=7 is required, since 8 bytes are known at p0, and nothing is known of w0; CHK
+w0 7 L before this bounds it, or LDCB tests it
+Cure: AND bounds an index too.
 
 V6 ChangesUnmarked
 It refuses: a slot with a VM block or DB group not known to be marked is written through a
 pointer, or its chunks are changed by an instruction that moves the chunks of the block.
-Example: s0=vm is changed here, and may not be marked yet: VDIRTY s0 marks it
+Example: s0=vm is changed here, and may not be marked: VDIRTY s0 before this marks it
 
 V7 LocksIntoHeld
 It refuses: a block is locked into a slot that is not empty.
-Example: s0=mem is held here, and an empty slot is wanted
+Example: s0=mem is locked here, and an empty slot is required: use another slot, or MUNLOCK
+s0 first
 Cure: unlock the slot first, or use another one; lock a block into it on each path; leave
 borrowed blocks to the caller.
 
 V8 WrongSlot
 It refuses: a slot is used, other than to lock into it, that is empty or has a block of the
 wrong kind; or a borrowed slot is unlocked. SNE requires two blocks of one kind.
-Example: s0=empty is known here, and mem is wanted
+Example: s0 is empty here, and a locked block is required: lock one into s0 first, or say s0
+in the in line
 Cure: unlock the slot first, or use another one; lock a block into it on each path; leave
 borrowed blocks to the caller.
 
 V9 CommitsHeld
 It refuses: VUPDATE, VSAVE or VREVERT while a slot has a VM block or a DB group.
-Example: s0=vm is held where the file is written: unlock it before; s0 is held since the in
-line
+Example: s0=vm is locked where the file is written: unlock it before; s0 is locked since the
+in line: unlock it in the caller
 
 V10 CallMisfit
 It refuses: CALL of a routine that does not come before its own, or whose entry row the row
 does not imply.
-Example: s0=vm is wanted by v9, and not known here
-Cure: put the callee before the caller; lock, fetch, bound and tell apart what its `in`
-says; empty the slots that it locks itself.
+Example: s0=vm is required by v9, and not known here; first lock a block into s0
+Cure: lock, fetch, bound and tell apart what the callee's `in` says; empty the slots that it
+locks itself.
 
 V11 ExitMisfit
 It refuses: RET if the row does not imply the exit row.
-Example: s0=mem is still held at the return; s0 is held since line 45
-Cure: on each path to RET unlock what `out` does not name.
+Example: s0=mem is still locked at the return; s0 is locked since line 45: say it in the out
+line, or MUNLOCK s0 before the return
 
 V12 EdgeMisfit
 It refuses: the row after an instruction does not imply the row where the edge leads.
-Example: s0=mem is wanted at line 52, and not known here; nothing leads here: take it out
+Example: s0=mem is required at line 52, and not known here; no path leads here: take it out
 
 V13 EdgeUnpaid
 It refuses: an edge is not paid for.
-Example: 4 steps are owed from here, 2 are left
+Example: 4 steps are required from here, and 2 are left
 Cure: have a LOOP on each cycle. Its counter is set on each path to the loop, and touched by
 no CALL. Bound the word of SETKW.
 
 V14 OverBudget
 It refuses: first pc: the potential's constant is above the budget, or a coefficient is
 above 0.
-Example: 2 steps are owed at the start of v14, the budget is 1: budget 2 is the least that
-serves
+Example: 2 steps are required from the start of v14, and the budget is 1: the least budget
+is 2
 Cure: have a LOOP on each cycle. Its counter is set on each path to the loop, and touched by
 no CALL. Bound the word of SETKW.
 
