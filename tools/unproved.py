@@ -37,7 +37,11 @@ OWN_LINE = re.compile(rb"(interpreter|checked|races): |run=|rt: ")
 # Names that `rt try` keeps for itself in the folder in which the program runs.
 TAKEN = ("program", "stdin", "stdout", "stderr", "given")
 # The options of `geos` with a word after them.
-WITH_WORD = ("--file", "--only", "--region", "--script", "--steps")
+WITH_WORD = ("--file", "--grant", "--only", "--region", "--script", "--steps")
+# The options that may stand before the command.
+ANYWHERE = ("--diagnostics", "--no-warnings")
+# The ending of the names of sources, by which the program knows them.
+SOURCE = ".tkv"
 SCRIPT = "--script="
 
 
@@ -59,7 +63,8 @@ class Request:
 
     def __post_init__(self) -> None:
         option = ""
-        for place, word in enumerate(self.words[1:], start=1):
+        first = self.first
+        for place, word in enumerate(self.words[first + 1 :], start=first + 1):
             if option == "--script" or word.startswith(SCRIPT):
                 self.scripts.append(place)
             elif option == "--" or not option and (word == "-" or not word.startswith("-")):
@@ -68,8 +73,13 @@ class Request:
                 option = word if not option and word in (*WITH_WORD, "--") else ""
 
     @property
+    def first(self) -> int:
+        """The place of the command, which options may precede."""
+        return next((place for place, word in enumerate(self.words) if word not in ANYWHERE), len(self.words))
+
+    @property
     def command(self) -> str:
-        return self.words[0] if self.words else ""
+        return self.words[self.first] if self.first < len(self.words) else ""
 
     @property
     def asks_for_help(self) -> bool:
@@ -83,6 +93,8 @@ class Request:
             return False
         if self.command in ("call", "trace"):
             return any(word == "--file" or word.startswith("--file=") for word in self.words)
+        if self.command == "budget" and "--in-place" in self.words:
+            return True
         if self.command in ("asm", "budget"):
             return len(self.plain) > 1 and self.words[self.plain[1]] != "-"
         return self.command in ("new", "run", "put", "get", "dump", "map")
@@ -95,7 +107,7 @@ class Request:
         return [*(self.plain[:1] if reads else []), *self.scripts]
 
     def reads_standard_input(self) -> bool:
-        if not self.words:
+        if not self.command:
             return True
         if self.command == "call" and len(self.plain) == 1 and not self.asks_for_help:
             return True
@@ -119,7 +131,7 @@ class Trial:
         if not_text(word):
             return  # the program refuses it
         if os.path.normpath(word) != word or name.split("/")[0] in ("", "..", *TAKEN) or "=" in word:
-            name = f"given/{len(self.renamed)}"
+            name = f"given/{len(self.renamed)}{SOURCE if word.endswith(SOURCE) else ''}"
             self.renamed[name] = word
             self.words[place] = option + name
         try:
@@ -139,7 +151,7 @@ class Trial:
     def restored(self, said: bytes) -> bytes:
         """A message of the program with the names that the caller gave, written as the program writes names."""
         names = {os.fsencode(name): shown(word) for name, word in self.renamed.items()}
-        return re.sub(rb"given/[0-9]+", lambda found: names.get(found[0], found[0]), said)
+        return re.sub(rb"given/[0-9]+(?:\.tkv)?", lambda found: names.get(found[0], found[0]), said)
 
 
 def shown(word: str) -> bytes:

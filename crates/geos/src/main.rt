@@ -3,20 +3,17 @@
 
 ghost use Rattle.geos_shell.specs.Limits.{KeepsLimits};
 
-mod fault;
 mod requests;
 
-use fault::RequestFault;
-use geos_shell::{Answer, Asked, keep_stream_numbers, requested, tell, words};
+use geos_shell::{Answer, Asked, Reported, keep_stream_numbers, report, requested, words};
 use geos_topics::topic_of;
 use requests::carry_out;
 use std::fmt::Display;
 use std::process::ExitCode;
 
-/// Says what is wrong in one line on standard error.
+/// Reports a fault, and returns the status of the program.
 fn fail<F: Display + Drop>(rt: &HostRuntime, fault: F) -> ExitCode {
-    // If standard error fails, only the status tells.
-    let _ = eprintln!(rt; "{fault}");
+    report(rt, &fault);
     ExitCode::FAILURE
 }
 
@@ -28,15 +25,6 @@ fn answered(rt: &HostRuntime, words: &[String], answer: &Answer) -> ExitCode {
     }
 }
 
-/// Says what is wrong in one line on standard error, and in further lines if they are wanted.
-fn fail_request(rt: &HostRuntime, fault: &RequestFault<'_>, wants_diagnostics: bool) -> ExitCode {
-    let _ = eprintln!(rt; "{fault}");
-    if wants_diagnostics {
-        tell(rt, &fault.diagnostics(rt.alloc()));
-    }
-    ExitCode::FAILURE
-}
-
 /// Carries out a request, and returns the program's status.
 fn run_request(rt: &HostRuntime, asked: Asked) -> ExitCode
     requires { KeepsLimits asked.request }
@@ -45,10 +33,10 @@ fn run_request(rt: &HostRuntime, asked: Asked) -> ExitCode
     if asked.request.has_faults(rt) {
         return ExitCode::FAILURE;
     }
-    let wants_diagnostics = asked.wants_diagnostics(rt);
-    match carry_out(rt, asked.request) {
+    let reports = asked.reports(rt);
+    match carry_out(rt, reports, asked.request, asked.grants) {
         Ok(()) => ExitCode::SUCCESS,
-        Err(fault) => fail_request(rt, &fault, wants_diagnostics),
+        Err(Reported) => ExitCode::FAILURE,
     }
 }
 

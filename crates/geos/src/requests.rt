@@ -2,14 +2,18 @@
 
 ghost use Rattle.geos_shell.specs.Limits.{KeepsLimits, RunsWithinLimits, WorksWithinLimits};
 
-use crate::fault::RequestFault;
 use geos_cli::Mode;
 use geos_dump::Detail;
 use geos_files::{draw_file, make_file, print_file};
 use geos_runs::{Manner, RunFault, Traceable, call as run_call, get, put, run, session, trace};
 use geos_scripts::NameUse;
-use geos_shell::{FileRequest, Request, RoutineRequest, TextRequest};
-use geos_texts::{Runnable, TextFault, assemble, budget, check, explain, explain_script, list};
+use geos_shell::{
+    FileRequest, Reported, Reports, Request, RoutineRequest, TextRequest, done_or_reported, tell,
+};
+use geos_texts::{
+    Runnable, TextFault, assemble, assemble_all, budget, check, explain, explain_script,
+    keep_to_grants, list, read_and_warn,
+};
 
 /// What a script does after a refused command.
 fn mode_of(strict: bool) -> Mode {
@@ -30,21 +34,46 @@ fn detail_of(chunks: bool) -> Detail {
     if chunks { Detail::Bytes } else { Detail::Lines }
 }
 
-/// What came of a run of these routines.
-fn ran<'a>(done: Result<(), RunFault<'a>>, routines: Runnable<'a>) -> Result<(), RequestFault<'a>> {
-    match done {
-        Ok(()) => Ok(()),
-        Err(fault) => Err(RequestFault::Ran(fault, routines)),
+/// The end of a run of routines. If the verifier refuses their image, its refusals are among the diagnostics.
+fn ran(
+    rt: &HostRuntime,
+    reports: Reports,
+    done: Result<(), RunFault<'_>>,
+    routines: &Runnable<'_>,
+) -> Result<(), Reported> {
+    let done = done_or_reported(rt, reports, done);
+    if done.is_err() && reports.diagnostics {
+        tell(rt, &routines.told(rt.alloc()));
     }
+    done
+}
+
+/// Reads an image, or assembles it from a text. If grants are given, its public routines do only what they grant.
+fn runnable<'a>(
+    rt: &HostRuntime,
+    reports: Reports,
+    image: &'a str,
+    grants: Option<&'a str>,
+) -> Result<Runnable<'a>, Reported> {
+    let routines = done_or_reported(rt, reports, read_and_warn(rt, reports, image))?;
+    if let Some(list) = grants {
+        done_or_reported(rt, reports, keep_to_grants(rt, &routines, list))?;
+    }
+    Ok(routines)
 }
 
 /// Runs routines as the request asks. Words are taken from left to right: the image is read, or assembled from a text, before the VM file
 /// is opened.
-fn run_routines<'a>(rt: &HostRuntime, request: RoutineRequest<'a>) -> Result<(), RequestFault<'a>>
+fn run_routines(
+    rt: &HostRuntime,
+    reports: Reports,
+    request: RoutineRequest<'_>,
+    grants: Option<&str>,
+) -> Result<(), Reported>
     requires { RunsWithinLimits request }
 {
     match request {
-        RoutineRequest::Session => Ok(session(rt)?),
+        RoutineRequest::Session => done_or_reported(rt, reports, session(rt)),
         RoutineRequest::Call {
             image,
             call,
@@ -52,15 +81,18 @@ fn run_routines<'a>(rt: &HostRuntime, request: RoutineRequest<'a>) -> Result<(),
             region,
             strict,
             form,
+            commit,
         } => {
             let manner = Manner {
                 mode: mode_of(strict),
                 names: NameUse::Allowed,
                 form,
+                commit,
+                wants_notes: reports.diagnostics,
             };
-            let routines = Runnable::read(rt, image)?;
+            let routines = runnable(rt, reports, image, grants)?;
             let done = run_call(rt, &manner, &routines.image, call, file, region);
-            ran(done, routines)
+            ran(rt, reports, done, &routines)
         }
         RoutineRequest::Trace {
             image,
@@ -68,13 +100,13 @@ fn run_routines<'a>(rt: &HostRuntime, request: RoutineRequest<'a>) -> Result<(),
             file,
             region,
         } => {
-            let routines = Runnable::read(rt, image)?;
+            let routines = runnable(rt, reports, image, None)?;
             let traceable = Traceable {
                 image: &routines.image,
                 lines: routines.lines(),
             };
             let done = trace(rt, &traceable, &words, file, region);
-            ran(done, routines)
+            ran(rt, reports, done, &routines)
         }
         RoutineRequest::Run {
             image,
@@ -84,30 +116,46 @@ fn run_routines<'a>(rt: &HostRuntime, request: RoutineRequest<'a>) -> Result<(),
             strict,
             names,
             form,
+            commit,
         } => {
             let manner = Manner {
                 mode: mode_of(strict),
                 names: use_of(names),
                 form,
+                commit,
+                wants_notes: reports.diagnostics,
             };
-            let routines = Runnable::read(rt, image)?;
+            let routines = runnable(rt, reports, image, grants)?;
             let done = run(rt, &manner, &routines.image, file, script, region);
-            ran(done, routines)
+            ran(rt, reports, done, &routines)
         }
     }
 }
 
 /// Works on a text or an image as the request asks.
-fn work_on_text<'a>(rt: &HostRuntime, request: TextRequest<'a>) -> Result<(), TextFault<'a>> {
+fn work_on_text<'a>(
+    rt: &HostRuntime,
+    reports: Reports,
+    request: TextRequest<'a>,
+) -> Result<(), TextFault<'a>> {
     match request {
         TextRequest::Assemble {
             text,
             image,
-            all_rows,
-        } => assemble(rt, text, image, all_rows),
-        TextRequest::Budget { text, new } => budget(rt, text, new),
+            all_rows: false,
+        } => assemble(rt, reports, text, image),
+        TextRequest::Assemble {
+            text,
+            image,
+            all_rows: true,
+        } => assemble_all(rt, text, image),
+        TextRequest::Budget {
+            text,
+            new,
+            in_place,
+        } => budget(rt, text, new, in_place),
         TextRequest::List(path) => list(rt, path),
-        TextRequest::Check(path) => check(rt, path),
+        TextRequest::Check(path) => check(rt, reports, path),
         TextRequest::Explain(path) => explain(rt, path),
         TextRequest::ExplainScript {
             image,
@@ -118,25 +166,49 @@ fn work_on_text<'a>(rt: &HostRuntime, request: TextRequest<'a>) -> Result<(), Te
 }
 
 /// Works on a VM file as the request asks.
-fn work_on_file<'a>(rt: &HostRuntime, request: FileRequest<'a>) -> Result<(), RequestFault<'a>>
+fn work_on_file(
+    rt: &HostRuntime,
+    reports: Reports,
+    request: FileRequest<'_>,
+) -> Result<(), Reported>
     requires { WorksWithinLimits request }
 {
     match request {
-        FileRequest::New { file, area } => Ok(make_file(rt, file, area)?),
-        FileRequest::Put { chunk, at, region } => Ok(put(rt, &chunk, at, region)?),
-        FileRequest::Get { chunk, region } => Ok(get(rt, &chunk, region)?),
-        FileRequest::Dump { file, chunks } => Ok(print_file(rt, file, detail_of(chunks))?),
-        FileRequest::Map { file, width } => Ok(draw_file(rt, file, width)?),
+        FileRequest::New { file, area } => done_or_reported(rt, reports, make_file(rt, file, area)),
+        FileRequest::Put { chunk, at, region } => {
+            done_or_reported(rt, reports, put(rt, &chunk, at, region))
+        }
+        FileRequest::Get { chunk, region } => done_or_reported(
+            rt,
+            reports,
+            get(rt, &chunk, region),
+        ),
+        FileRequest::Dump { file, chunks } => {
+            done_or_reported(rt, reports, print_file(rt, file, detail_of(chunks)))
+        }
+        FileRequest::Map { file, width } => done_or_reported(
+            rt,
+            reports,
+            draw_file(rt, file, width),
+        ),
     }
 }
 
-/// Carries out a request.
-pub(crate) fn carry_out<'a>(rt: &HostRuntime, request: Request<'a>) -> Result<(), RequestFault<'a>>
+/// Carries out a request. A fault is reported on standard error, with diagnostics if they are wanted. `grants` limits what `call` and `run`
+/// run, if it is given.
+pub(crate) fn carry_out(
+    rt: &HostRuntime,
+    reports: Reports,
+    request: Request<'_>,
+    grants: Option<&str>,
+) -> Result<(), Reported>
     requires { KeepsLimits request }
 {
     match request {
-        Request::Routines(request) => run_routines(rt, request),
-        Request::Text(request) => Ok(work_on_text(rt, request)?),
-        Request::File(request) => work_on_file(rt, request),
+        Request::Routines(request) => run_routines(rt, reports, request, grants),
+        Request::Text(request) => {
+            done_or_reported(rt, reports, work_on_text(rt, reports, request))
+        }
+        Request::File(request) => work_on_file(rt, reports, request),
     }
 }

@@ -1,7 +1,8 @@
 //! Why a VM file was not made, opened or shown.
 
 use geos_dump::DumpError;
-use geos_shell::StreamFault;
+use geos_shell::{Diagnosed, StreamFault};
+use std::alloc::Global;
 use thiserror::Error;
 use vm_file::{CreateError, OpenError};
 
@@ -20,4 +21,13 @@ pub enum FileFault<'a> {
     /// The VM file was not shown.
     #[error(transparent)]
     Dump(#[from] DumpError),
+}
+
+impl Diagnosed for FileFault<'_> {
+    fn diagnostics(&self, alloc: Global) -> Vec<u8> {
+        match self {
+            FileFault::Stream(fault) => fault.diagnostics(alloc),
+            FileFault::Create(_) | FileFault::Open(..) | FileFault::Dump(_) => Vec::new(alloc),
+        }
+    }
 }

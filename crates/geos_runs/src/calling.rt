@@ -4,6 +4,7 @@ ghost use Rattle.vm_blocks.specs.Listed.{NoneLocked};
 ghost use Rattle.geos_shell.specs.Limits.{IsRegion};
 
 use crate::MOST_READ;
+use crate::ending::ended;
 use crate::fault::RunFault;
 use crate::manner::{Manner, run_call_on, run_script_on};
 use geos_cli::ScriptFault;
@@ -14,11 +15,20 @@ use vm_file::{Device, FileDevice, VmFile};
 
 /// What is run.
 #[derive(Drop)]
-enum Work<'a> {
+pub(crate) enum Work<'a> {
     /// A call.
     Call(CallWords<'a>),
     /// A script of these bytes.
     Script(Vec<u8>),
+}
+
+/// What is run with the routines of an image, and how.
+#[derive(Drop)]
+pub(crate) struct Job<'j, 'a> {
+    pub(crate) manner: &'j Manner,
+    /// The bytes of the image.
+    pub(crate) image: &'j [u8],
+    pub(crate) work: Work<'a>,
 }
 
 /// What is run: the call, or if there is none, the script on the standard input.
@@ -29,52 +39,46 @@ fn work_of<'a>(rt: &HostRuntime, call: Option<CallWords<'a>>) -> Result<Work<'a>
     }
 }
 
-/// Runs it with an image on a kernel of whose VM file no block is locked.
-fn work_on<'a, D: Device + Drop>(
-    rt: &HostRuntime,
-    manner: &Manner,
-    image: &[u8],
-    work: &Work<'a>,
-    kernel: &mut Kernel<D>,
-) -> Result<(), RunFault<'a>>
-    requires { NoneLocked kernel.old.core.blocks }
-{
-    match work {
-        Work::Call(call) => run_call_on(rt, manner, image, call, kernel),
-        Work::Script(script) => run_script_on(rt, manner, image, script, kernel),
+impl<'a> Job<'_, 'a> {
+    /// Runs it on a kernel of whose VM file no block is locked.
+    fn run<D: Device + Drop>(
+        &self,
+        rt: &HostRuntime,
+        kernel: &mut Kernel<D>,
+    ) -> Result<(), RunFault<'a>>
+        requires { NoneLocked kernel.old.core.blocks }
+    {
+        match &self.work {
+            Work::Call(call) => run_call_on(rt, self.manner, self.image, call, kernel),
+            Work::Script(script) => run_script_on(rt, self.manner, self.image, script, kernel),
+        }
     }
-}
 
-/// Runs it on a new VM file in memory, with so many bytes for blocks in memory.
-fn work_in_memory<'a>(
-    rt: &HostRuntime,
-    manner: &Manner,
-    image: &[u8],
-    work: &Work<'a>,
-    region: u32,
-) -> Result<(), RunFault<'a>>
-    requires { IsRegion region }
-{
-    match kernel_in_memory(rt.alloc(), region) {
-        Ok(mut kernel) => work_on(rt, manner, image, work, &mut kernel),
-        Err(_) => Err(RunFault::Session(ScriptFault::Memory)),
+    /// Runs it on a new VM file in memory, with so many bytes for blocks in memory.
+    fn run_in_memory(&self, rt: &HostRuntime, region: u32) -> Result<(), RunFault<'a>>
+        requires { IsRegion region }
+    {
+        match kernel_in_memory(rt.alloc(), region) {
+            Ok(mut kernel) => self.run(rt, &mut kernel),
+            Err(_) => Err(RunFault::Session(ScriptFault::Memory)),
+        }
     }
-}
 
-/// Runs it on an open VM file, with so many bytes for blocks in memory.
-fn work_in<'a>(
-    rt: &HostRuntime,
-    manner: &Manner,
-    image: &[u8],
-    work: &Work<'a>,
-    region: u32,
-    file: VmFile<FileDevice>,
-) -> Result<(), RunFault<'a>>
-    requires { IsRegion region }
-{
-    match Kernel::new(rt.alloc(), region, file) {
-        Ok(mut kernel) => work_on(rt, manner, image, work, &mut kernel),
-        Err(_) => Err(RunFault::Session(ScriptFault::Memory)),
+    /// Runs it on the open VM file with the path, with so many bytes for blocks in memory.
+    pub(crate) fn run_on(
+        &self,
+        rt: &HostRuntime,
+        path: &str,
+        region: u32,
+        file: VmFile<FileDevice>,
+    ) -> Result<(), RunFault<'a>>
+        requires { IsRegion region }
+    {
+        let Ok(mut kernel) = Kernel::new(rt.alloc(), region, file) else {
+            return Err(RunFault::Session(ScriptFault::Memory));
+        };
+        let done = self.run(rt, &mut kernel);
+        ended(rt, self.manner, path, &mut kernel, done)
     }
 }
 
@@ -97,7 +101,12 @@ fn work_on_file<'a>(
     } = wait_for(rt, file)?;
     let file = opened(rt, path, device)?;
     let work = work?;
-    work_in(rt, manner, image, &work, region, file)
+    Job {
+        manner,
+        image,
+        work,
+    }
+    .run_on(rt, path, region, file)
 }
 
 /// Runs one call of the routines of an image; without a call it reads the standard input and runs that script. It runs on the VM file with
@@ -116,7 +125,12 @@ pub fn call<'a>(
         Some(path) => work_on_file(rt, manner, image, path, call, region),
         None => {
             let work = work_of(rt, call)?;
-            work_in_memory(rt, manner, image, &work, region)
+            Job {
+                manner,
+                image,
+                work,
+            }
+            .run_in_memory(rt, region)
         }
     }
 }

@@ -2,7 +2,8 @@
 
 use geos_cli::ScriptFault;
 use geos_files::FileFault;
-use geos_shell::{Named, StreamFault};
+use geos_shell::{Diagnosed, Named, StreamFault};
+use std::alloc::Global;
 use thiserror::Error;
 
 /// Why a session, a script, a call or a trace was not run, or a chunk was not written or read.
@@ -38,4 +39,14 @@ pub enum RunFault<'a> {
     /// A call gives a ninth number.
     #[error("bad call: more than eight numbers")]
     TooManyNumbers,
+}
+
+impl Diagnosed for RunFault<'_> {
+    fn diagnostics(&self, alloc: Global) -> Vec<u8> {
+        match self {
+            RunFault::Stream(fault) => fault.diagnostics(alloc),
+            RunFault::File(fault) => fault.diagnostics(alloc),
+            _ => Vec::new(alloc),
+        }
+    }
 }

@@ -6,6 +6,7 @@
 
 mod calling;
 mod chunks;
+mod ending;
 mod fault;
 mod manner;
 mod running;

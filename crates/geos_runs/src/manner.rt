@@ -9,7 +9,7 @@ use geos_cli::{
 };
 use geos_kernel::Kernel;
 use geos_scripts::NameUse;
-use geos_shell::{CallWords, Digits, OutputForm};
+use geos_shell::{CallWords, Digits, EndCommit, OutputForm};
 use std::alloc::Global;
 use std::io;
 use std::io::{BufWriter, Printer, Write};
@@ -24,6 +24,10 @@ pub struct Manner {
     pub names: NameUse,
     /// How outputs are written.
     pub form: OutputForm,
+    /// What is committed at the end of a run on a file.
+    pub commit: Option<EndCommit>,
+    /// Whether changed blocks of a file that no commit has kept are reported.
+    pub wants_notes: bool,
 }
 
 /// Standard output through a buffer, with what is asked of it counted. `ScriptFault::Memory` if there is no memory for the buffer.

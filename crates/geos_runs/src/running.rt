@@ -3,13 +3,12 @@
 ghost use Rattle.geos_shell.specs.Limits.{IsRegion};
 
 use crate::MOST_READ;
+use crate::calling::{Job, Work};
 use crate::fault::RunFault;
-use crate::manner::{Manner, output, run_script_on};
-use geos_cli::{Counted, ScriptFault, run_session};
+use crate::manner::{Manner, output};
+use geos_cli::{Counted, run_session};
 use geos_files::{Locked, opened, wait_for};
-use geos_kernel::Kernel;
 use geos_shell::{Lockable, STANDARD, Sharing, keep_from_output, read, tell_typist};
-use vm_file::{FileDevice, VmFile};
 
 /// Runs a session on the standard streams, unless it would print into what it reads.
 pub fn session<'a>(rt: &HostRuntime) -> Result<(), RunFault<'a>> {
@@ -17,23 +16,6 @@ pub fn session<'a>(rt: &HostRuntime) -> Result<(), RunFault<'a>> {
     tell_typist(rt);
     let mut out = output(rt)?;
     Ok(run_session(rt.alloc(), &mut Counted::new(rt.stdin()), &mut out)?)
-}
-
-/// Runs a script with an image on an open VM file, with so many bytes for blocks in memory.
-fn run_in<'a>(
-    rt: &HostRuntime,
-    manner: &Manner,
-    image: &[u8],
-    script: &[u8],
-    region: u32,
-    file: VmFile<FileDevice>,
-) -> Result<(), RunFault<'a>>
-    requires { IsRegion region }
-{
-    match Kernel::new(rt.alloc(), region, file) {
-        Ok(mut kernel) => run_script_on(rt, manner, image, script, &mut kernel),
-        Err(_) => Err(RunFault::Session(ScriptFault::Memory)),
-    }
 }
 
 /// Runs a script of an image on a VM file, with `region` bytes for blocks in memory. In strict mode it ends at the first refused command,
@@ -59,6 +41,11 @@ pub fn run<'a>(
         lock: _lock,
     } = wait_for(rt, file)?;
     let file = opened(rt, path, device)?;
-    let script = script?;
-    run_in(rt, manner, image, &script, region, file)
+    let work = Work::Script(script?);
+    Job {
+        manner,
+        image,
+        work,
+    }
+    .run_on(rt, path, region, file)
 }

@@ -62,8 +62,8 @@ impl Word {
     fn about(self) -> &'static str {
         match self {
             Word::TextOrImage =>
-                "A file of assembly text, at most 1,048,576 bytes, or of an image's bytes; `-` is the standard input, where NAME is given",
-            Word::TracedName => "The public routine that is run",
+                "A file of assembly text, at most 1,048,576 bytes, or of an image's bytes; `-` is the standard input, if NAME is given",
+            Word::TracedName => "The public routine that runs",
             Word::Text =>
                 "A file of assembly text, at most 1,048,576 bytes; `-` is the standard input",
             Word::NewImage => "The file that the image goes to; `-` is the standard output",
@@ -71,7 +71,7 @@ impl Word {
                 "A file of assembly text, whose budgets may each be a `?`; `-` is the standard input",
             Word::ImageOrText =>
                 "A file of an image's bytes, or of assembly text; `-` is the standard input",
-            Word::NewFile => "The VM file that is made; there is none of that name yet",
+            Word::NewFile => "The VM file that is made; no file has that name yet",
             Word::File => "A VM file, as `new` makes it",
             Word::Script =>
                 "A file of commands, at most 1,048,576 bytes; `-` is the standard input",
@@ -101,15 +101,15 @@ impl MayBe {
         match self {
             MayBe::Name => NameText {
                 name: "NAME",
-                about: "The public routine that is run; with none, a script is read from the standard input",
+                about: "The public routine that runs; without it, a script is read from the standard input",
             },
             MayBe::NewText => NameText {
                 name: "OUT",
-                about: "The file that the text goes to; `-`, or with none, is the standard output",
+                about: "The file that the text goes to; without it, or with `-`, the standard output",
             },
             MayBe::Offset => NameText {
                 name: "AT",
-                about: "The offset from which on bytes are written over; with none, all are replaced",
+                about: "The offset from which bytes are overwritten; without it, all bytes are replaced",
             },
         }
     }
@@ -118,7 +118,7 @@ impl MayBe {
 /// The words that a command may be given, any number of them.
 pub(crate) const WORDS: NameText = NameText {
     name: "N",
-    about: "Its words w0 to w7: at most eight numbers, each from 0 to 65535 and within the bound of its word; then @H for each block that it borrows",
+    about: "Its words w0 to w7: at most eight numbers, each from 0 to 65535 and within the bound of its word; then @H for each block that the routine borrows",
 };
 
 /// A flag that a command may be given.
@@ -136,6 +136,9 @@ pub(crate) enum Flag {
     AsText,
     Label,
     AllRows,
+    InPlace,
+    Update,
+    Save,
 }
 
 impl Flag {
@@ -151,6 +154,9 @@ impl Flag {
             Flag::AsText => "text",
             Flag::Label => "label",
             Flag::AllRows => "all-rows",
+            Flag::InPlace => "in-place",
+            Flag::Update => "update",
+            Flag::Save => "save",
         }
     }
 
@@ -164,14 +170,17 @@ impl Flag {
             Flag::StrictCall =>
                 "Ends with status 1 at the first line of the script that prints `refused K`",
             Flag::Vars =>
-                "Lets lines keep words under names, as `call make -> h`, and write them, as `call use $h 5`",
+                "Lets lines keep words under names, as `call make -> h`, and use them, as `call use $h 5`",
             Flag::VarsToExplain =>
-                "Lets lines of SCRIPT keep and write names, as `run --vars` and `call` do",
-            Flag::Hex => "Prints words in four hexadecimal digits behind 0x",
+                "Lets lines of SCRIPT keep and use names, as `run --vars` and `call` do",
+            Flag::Hex => "Prints words as 0x and four hexadecimal digits",
             Flag::Signed => "Prints words as numbers from -32768 to 32767",
             Flag::AsText => "Prints the words of a call as bytes of a text",
-            Flag::Label => "Prints each line behind its call",
+            Flag::Label => "Prints each line after its call",
             Flag::AllRows => "Gives a row at each instruction, as images of version 1 do",
+            Flag::InPlace => "Replaces the text in the file TEXT",
+            Flag::Update => "Commits at the end, as the command `update` of a script does",
+            Flag::Save => "Commits at the end, as the command `save` of a script does",
         }
     }
 
@@ -186,13 +195,20 @@ impl Flag {
 /// The flag that every command may be given, and the program without one.
 pub(crate) const DIAGNOSTICS: NameText = NameText {
     name: "diagnostics",
-    about: "Adds lines `FILE:LINE: error: ..` or `FILE: note: ..` to a fault, as on a terminal",
+    about: "Adds lines `FILE:LINE: error: ..`, `warning: ..` or `note: ..` on standard error, as on a terminal",
+};
+
+/// The flag that keeps warnings from being added.
+pub(crate) const NO_WARNINGS: NameText = NameText {
+    name: "no-warnings",
+    about: "Leaves warnings out of what --diagnostics adds",
 };
 
 /// A word behind a name that a command may be given.
 #[derive(Clone, Copy)]
 pub(crate) enum Setting {
     OnFile,
+    Granted,
     Only,
     ScriptToExplain,
 }
@@ -202,6 +218,7 @@ impl Setting {
     pub(crate) fn word(self) -> &'static str {
         match self {
             Setting::OnFile => "FILE",
+            Setting::Granted => "EFFECTS",
             Setting::Only => "ROUTINE",
             Setting::ScriptToExplain => "SCRIPT",
         }
@@ -211,7 +228,11 @@ impl Setting {
         match self {
             Setting::OnFile => NameText {
                 name: "file",
-                about: "The VM file that it works on, as `new` makes it; with none, one in memory",
+                about: "The VM file that it works on, as `new` makes it; without it, one in memory",
+            },
+            Setting::Granted => NameText {
+                name: "grant",
+                about: "What public routines may do, as output,changes-lent; without it, all",
             },
             Setting::Only => NameText {
                 name: "only",
@@ -219,7 +240,7 @@ impl Setting {
             },
             Setting::ScriptToExplain => NameText {
                 name: "script",
-                about: "A file of commands, of which each bad line is told in place of all else; `-` is the standard input",
+                about: "A file of commands; only its bad lines are explained; `-` is the standard input",
             },
         }
     }

@@ -1,7 +1,7 @@
 //! The command line, as `clap` takes it.
 
 use crate::answer::Answer;
-use crate::arguments::{Argument, DIAGNOSTICS, NameText, NumberName, Setting, WORDS};
+use crate::arguments::{Argument, DIAGNOSTICS, NO_WARNINGS, NameText, NumberName, Setting, WORDS};
 use crate::commands::{CommandText, command_texts};
 use crate::help::{ABOUT, SESSION, USAGES};
 use clap::{Arg, ArgAction, ArgMatches, Command, Error};
@@ -115,6 +115,7 @@ fn program<'a>(alloc: Global) -> Result<Command<'a>, AllocError> {
     bare_program(alloc)
         .bin_name("geos")?
         .arg(flag(alloc, DIAGNOSTICS).global(true))?
+        .arg(flag(alloc, NO_WARNINGS).global(true))?
         .subcommands(commands)
 }
 

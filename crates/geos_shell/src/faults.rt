@@ -76,7 +76,7 @@ impl TextRequest<'_> {
             TextRequest::Assemble { text, image, .. } => {
                 are_in_read(rt, text) || are_in_kept(rt, image)
             }
-            TextRequest::Budget { text, new } => are_in_read(rt, text) || are_in_kept(rt, new),
+            TextRequest::Budget { text, new, .. } => are_in_read(rt, text) || are_in_kept(rt, new),
             TextRequest::List(path) | TextRequest::Check(path) | TextRequest::Explain(path) => {
                 are_in_read(rt, path)
             }

@@ -1,4 +1,4 @@
-//! How outputs are to be written.
+//! How outputs are written, and what is committed at the end.
 
 use crate::help::Usage;
 use crate::misuse::Misuse;
@@ -48,5 +48,26 @@ impl OutputForm {
     /// Whether each word is in decimal on a line, and nothing else is.
     pub fn is_plain(&self) -> bool {
         matches!(self.digits, Digits::Decimal) && !self.label
+    }
+}
+
+/// The commit at the end of a script or a call.
+#[derive(Clone, Copy)]
+pub enum EndCommit {
+    /// The file keeps its blocks as they are.
+    Update,
+    /// The same, and the blocks as they are become the saved ones.
+    Save,
+}
+
+impl EndCommit {
+    /// The commit that the words ask for, if they ask for one.
+    pub(crate) fn of(words: &ArgMatches<'_>, usage: Usage) -> Result<Option<EndCommit>, Misuse> {
+        match (words.get_flag("update"), words.get_flag("save")) {
+            (false, false) => Ok(None),
+            (true, false) => Ok(Some(EndCommit::Update)),
+            (false, true) => Ok(Some(EndCommit::Save)),
+            (true, true) => Err(Misuse::TwoCommits(usage)),
+        }
     }
 }

@@ -23,20 +23,22 @@ mod parts;
 mod printable;
 mod reason;
 mod replace;
+mod reported;
 mod request;
 mod streams;
 
 pub use answer::Answer;
 pub use command_line::words;
 pub use descriptors::keep_stream_numbers;
-pub use forms::{Digits, OutputForm};
+pub use forms::{Digits, EndCommit, OutputForm};
 pub use locks::{FileLock, Lockable, Sharing};
 pub use new_file::NewFile;
 pub use output::keep_from_output;
 pub use printable::Named;
 pub use reason::Reason;
+pub use reported::{Diagnosed, Reported, done_or_reported, report};
 pub use request::{
-    Asked, CallWords, ChunkPath, FileRequest, Request, RoutineRequest, TextRequest, TraceWords,
-    requested,
+    Asked, CallWords, ChunkPath, FileRequest, Reports, Request, RoutineRequest, TextRequest,
+    TraceWords, requested,
 };
 pub use streams::{STANDARD, StreamFault, print, print_lines, read, tell, tell_typist, write};

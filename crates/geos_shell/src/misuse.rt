@@ -24,6 +24,12 @@ pub(crate) enum Misuse {
     TwoWritings(Usage),
     /// What is made of the text that this name stands for is to take the place of it, by a command of this usage.
     OntoText(&'static str, Usage),
+    /// Two commits are asked for, of a command of this usage.
+    TwoCommits(Usage),
+    /// A commit is asked for, and no file is named.
+    NoFile,
+    /// A text is to be replaced that is no file, or whose new form has another path.
+    NotInPlace,
     /// Nothing is wrong with the words, but an allocation was refused.
     Memory,
 }
@@ -73,6 +79,13 @@ impl Misuse {
             Misuse::OntoText(name, _) => {
                 format!(in alloc; "{name} and OUT are one file, and the text would be lost")
             }
+            Misuse::TwoCommits(_) => {
+                String::from_str(alloc, "only one of '--update' and '--save' can be given")
+            }
+            Misuse::NoFile => String::from_str(alloc, "'--update' and '--save' require '--file'"),
+            Misuse::NotInPlace => {
+                String::from_str(alloc, "'--in-place' requires a file TEXT, and no OUT")
+            }
             Misuse::Memory => Err(AllocError),
         }
     }
@@ -82,10 +95,14 @@ impl Misuse {
         match self {
             Misuse::WrongNumber(number) => number.usage.text(),
             Misuse::TwoWritings(usage)
+            | Misuse::TwoCommits(usage)
             | Misuse::NoWord(_, usage)
             | Misuse::TwoOfOneStream(usage)
             | Misuse::OntoText(_, usage) => usage.text(),
-            Misuse::NoName | Misuse::NoScript | Misuse::Memory => Usage::Call.text(),
+            Misuse::NoName | Misuse::NoScript | Misuse::NoFile | Misuse::Memory => {
+                Usage::Call.text()
+            }
+            Misuse::NotInPlace => Usage::Budget.text(),
             Misuse::NamesOfNoScript => Usage::Explain.text(),
         }
     }

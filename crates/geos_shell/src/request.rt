@@ -4,9 +4,9 @@ ghost use Rattle.std.specs.Prelude.{IfOk};
 ghost use Rattle.geos_shell.specs.Limits.{KeepsLimits, RunsWithinLimits, WorksWithinLimits};
 
 use crate::answer::Answer;
-use crate::arguments::DIAGNOSTICS;
+use crate::arguments::{DIAGNOSTICS, NO_WARNINGS};
 use crate::command_line::matches_of;
-use crate::forms::OutputForm;
+use crate::forms::{EndCommit, OutputForm};
 use crate::help::Usage;
 use crate::misuse::Misuse;
 use crate::numbers::{
@@ -63,6 +63,7 @@ pub enum RoutineRequest<'a> {
         region: u32,
         strict: bool,
         form: OutputForm,
+        commit: Option<EndCommit>,
     },
     /// To run one call, and to print its steps, or how often each line ran; on a VM file, or with none on one in memory, with so many
     /// bytes for blocks in memory.
@@ -82,6 +83,7 @@ pub enum RoutineRequest<'a> {
         strict: bool,
         names: bool,
         form: OutputForm,
+        commit: Option<EndCommit>,
     },
 }
 
@@ -94,10 +96,11 @@ pub enum TextRequest<'a> {
         image: &'a str,
         all_rows: bool,
     },
-    /// To write a text with the least budgets.
+    /// To write a text with the least budgets, to another path, or in its own place.
     Budget {
         text: &'a str,
         new: &'a str,
+        in_place: bool,
     },
     /// To print the listing of an image.
     List(&'a str),
@@ -156,18 +159,35 @@ pub enum Request<'a> {
     File(FileRequest<'a>),
 }
 
-/// A request, and how its faults are reported.
+/// A request, and what is reported on standard error beside its faults.
 #[derive(Drop)]
 pub struct Asked<'a> {
     /// What is to be done.
     pub request: Request<'a>,
+    /// What public routines may do that are run, if that is limited: words with commas.
+    pub grants: Option<&'a str>,
     diagnostics: bool,
+    no_warnings: bool,
+}
+
+/// What is reported on standard error beside the line of a fault.
+#[derive(Clone, Copy)]
+pub struct Reports {
+    /// Lines that say more of a fault, and of changes that are lost.
+    pub diagnostics: bool,
+    /// Warnings about texts.
+    pub warnings: bool,
 }
 
 impl Asked<'_> {
-    /// Whether a fault is followed by lines that say more: `--diagnostics` asks for them, and a terminal as standard error gets them.
-    pub fn wants_diagnostics(&self, rt: &HostRuntime) -> bool {
-        self.diagnostics || rt.stderr().is_terminal()
+    /// What is reported: diagnostics if `--diagnostics` asks for them or standard error is a terminal, and warnings with them unless
+    /// `--no-warnings` leaves them out.
+    pub fn reports(&self, rt: &HostRuntime) -> Reports {
+        let diagnostics = self.diagnostics || rt.stderr().is_terminal();
+        Reports {
+            diagnostics,
+            warnings: diagnostics && !self.no_warnings,
+        }
     }
 }
 
@@ -195,6 +215,14 @@ fn call_words<'a>(alloc: Global, words: &ArgMatches<'a>) -> Result<Option<CallWo
     }
 }
 
+/// What `call` or `run` grants, if that is limited.
+fn grants_of<'a>(matches: &ArgMatches<'a>) -> Option<&'a str> {
+    match matches.subcommand() {
+        Some(("call" | "run", words)) => words.get_str("grant"),
+        _ => None,
+    }
+}
+
 /// What a `call` asks for. A wrong number is said first.
 fn call_of<'a>(alloc: Global, words: &ArgMatches<'a>) -> Result<RoutineRequest<'a>, Misuse>
     ensures { IfOk result RunsWithinLimits }
@@ -209,13 +237,19 @@ fn call_of<'a>(alloc: Global, words: &ArgMatches<'a>) -> Result<RoutineRequest<'
     if call.is_some() && strict {
         return Err(Misuse::NoScript);
     }
+    let file = words.get_str("file");
+    let commit = EndCommit::of(words, Usage::Call)?;
+    if commit.is_some() && file.is_none() {
+        return Err(Misuse::NoFile);
+    }
     Ok(RoutineRequest::Call {
         image,
         call,
-        file: words.get_str("file"),
+        file,
         region,
         strict,
         form: OutputForm::of(words, Usage::Call)?,
+        commit,
     })
 }
 
@@ -285,6 +319,7 @@ fn run_of<'a>(words: &ArgMatches<'a>) -> Result<RoutineRequest<'a>, Misuse>
         strict: words.get_flag("strict"),
         names: words.get_flag("vars"),
         form: OutputForm::of(words, Usage::Run)?,
+        commit: EndCommit::of(words, Usage::Run)?,
     })
 }
 
@@ -351,16 +386,26 @@ fn map_of<'a>(words: &ArgMatches<'a>) -> Result<FileRequest<'a>, Misuse>
     }
 }
 
-/// What a `budget` asks for. As of `asm`, what is made of a text does not take its place.
+/// What a `budget` asks for. What is made of a text takes its place only if that is asked for.
 fn budget_of<'a>(words: &ArgMatches<'a>) -> Result<TextRequest<'a>, Misuse> {
-    let (text, new) = (
-        word(words, "TEXT"),
-        words.get_str("OUT").unwrap_or(STANDARD),
-    );
-    if text == new && !is_stream(text) {
+    let (text, out) = (word(words, "TEXT"), words.get_str("OUT"));
+    let in_place = words.get_flag("in-place");
+    if in_place && (is_stream(text) || out.is_some()) {
+        return Err(Misuse::NotInPlace);
+    }
+    let new = if in_place {
+        text
+    } else {
+        out.unwrap_or(STANDARD)
+    };
+    if text == new && !in_place && !is_stream(text) {
         return Err(Misuse::OntoText("TEXT", Usage::Budget));
     }
-    Ok(TextRequest::Budget { text, new })
+    Ok(TextRequest::Budget {
+        text,
+        new,
+        in_place,
+    })
 }
 
 /// What a `dump` asks for.
@@ -428,15 +473,16 @@ fn answer_to(alloc: Global, words: &[String], error: &Error) -> Answer {
     }
 }
 
-/// The request of the words, and how its faults are reported.
+/// The request of the words, and what is reported beside its faults.
 fn asked_of<'a>(alloc: Global, matches: &ArgMatches<'a>) -> Result<Asked<'a>, Misuse>
     ensures { IfOk result (λ asked. KeepsLimits asked.request) }
 {
     let request = request_of(alloc, matches)?;
-    let diagnostics = matches.get_flag(DIAGNOSTICS.name);
     Ok(Asked {
         request,
-        diagnostics,
+        grants: grants_of(matches),
+        diagnostics: matches.get_flag(DIAGNOSTICS.name),
+        no_warnings: matches.get_flag(NO_WARNINGS.name),
     })
 }
 

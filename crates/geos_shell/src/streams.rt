@@ -5,6 +5,7 @@ use crate::parts::PartFault;
 use crate::printable::{Named, for_terminal};
 use crate::reason::Reason;
 use crate::replace::replace;
+use crate::reported::Diagnosed;
 use std::alloc::Global;
 use std::io::{ErrorKind, IsTerminal, Read, Write};
 use std::{fs, io};
@@ -35,15 +36,22 @@ pub enum StreamFault<'a> {
     Memory,
 }
 
-impl<'a> StreamFault<'a> {
-    /// The path that can't be read or written, and why.
-    pub fn reason(&self) -> Option<(&'a str, Reason)> {
+impl Diagnosed for StreamFault<'_> {
+    fn diagnostics(&self, alloc: Global) -> Vec<u8> {
         match self {
             StreamFault::Read(path, reason) | StreamFault::Write(path, reason) => {
-                Some((*path, *reason))
+                note(alloc, Named(path), *reason)
             }
-            StreamFault::Left(_) | StreamFault::Memory => None,
+            StreamFault::Left(_) | StreamFault::Memory => Vec::new(alloc),
         }
+    }
+}
+
+/// The system's reason as a diagnostic.
+fn note(alloc: Global, path: Named<'_>, reason: Reason) -> Vec<u8> {
+    match format!(in alloc; "{path}: note: {reason}\n") {
+        Ok(line) => line.into_bytes(),
+        Err(_) => Vec::new(alloc),
     }
 }
 

@@ -7,8 +7,7 @@ ghost use Rattle.geos_texts.specs.Commands.{IsAssembledAs, TakesVersion2, IsImag
 ghost use Rattle.geos_texts.specs.Commands.{IsJudged, IsJudgedText, IsFaultTold, begins_as_image};
 
 use geos_asm::{
-    AssembleError, Assembled, Unassembled, assemble, assemble_all_rows, assemble_or_tell,
-    assemble_with_lines,
+    AssembleError, Assembled, Unassembled, assemble_all_rows, assemble_or_tell, assemble_with_lines,
 };
 use geos_explain::{explain, explain_cause, explain_text};
 use geos_image::ReadError;
@@ -16,15 +15,6 @@ use geos_lines::tell_faults;
 use geos_verify::{Reject, check, refused_places};
 use round_trip::list;
 use std::alloc::{AllocError, Global};
-
-/// The bytes of the image of an assembly text, with rows at its key places. Its faults are those of `geos_asm::assemble`.
-pub(crate) fn assemble_bytes(alloc: Global, text: &[u8]) -> Result<Vec<u8>, AssembleError>
-    ensures assembled { IfOk result (λ bytes. IsAssembledAs text.now false bytes.items) }
-    ensures fault { IfErr result (IsWhyNoImage text.now) }
-{
-    let image = assemble(alloc, text)?;
-    Ok(geos_image::write(alloc, &image)?)
-}
 
 /// The bytes of the image of an assembly text with all rows, of version 1. `None` where a slot is borrowed, which takes
 /// version 2. Its faults are those of `geos_asm::assemble`.
@@ -116,8 +106,8 @@ pub(crate) struct NotMade {
     pub(crate) fault: AssembleError,
 }
 
-/// The image of a text, as bytes, with the line of each instruction. Its faults are those of `geos_asm::assemble`.
-fn made_of_text(alloc: Global, text: &[u8]) -> Result<Made, AssembleError>
+/// The image of a text, as bytes, with rows at its key places and with the line of each instruction. Its faults are those of `geos_asm::assemble`.
+pub(crate) fn made_of_text(alloc: Global, text: &[u8]) -> Result<Made, AssembleError>
     ensures image { IfOk result (λ made. IsAssembledAs text.now false made.image.items) }
     ensures fault { IfErr result (IsWhyNoImage text.now) }
 {

@@ -2,10 +2,11 @@
 
 use crate::diagnostics::of_text;
 use crate::runnable::Runnable;
+use crate::sources::FaultySource;
 use geos_asm::{AssembleError, BudgetError};
 use geos_image::ReadError;
 use geos_input::ScriptFault;
-use geos_shell::{Named, StreamFault};
+use geos_shell::{Diagnosed, Named, StreamFault};
 use geos_verify::Reject;
 use std::alloc::Global;
 use std::fmt::{self, Display, Formatter};
@@ -55,12 +56,18 @@ pub enum TextFault<'a> {
     /// A text is not assembled.
     #[error("{0}")]
     Assemble(FaultyText<'a>),
+    /// A source is not compiled.
+    #[error("{0}")]
+    Source(FaultySource<'a>),
     /// A text has no budgets that are enough.
     #[error(transparent)]
     Budget(#[from] BudgetError),
     /// An image of version 1 is wanted of a text with a borrowed slot.
     #[error("a borrowed slot takes version 2")]
     TakesVersion2,
+    /// An image of version 1 is wanted of a source.
+    #[error("--all-rows requires an assembly text")]
+    AllRowsOfSource,
     /// The bytes are no image.
     #[error(transparent)]
     Read(#[from] ReadError),
@@ -70,16 +77,23 @@ pub enum TextFault<'a> {
     /// A text that is not assembled, of which all is printed that there is to say.
     #[error(transparent)]
     Unexplained(AssembleError),
+    /// A list of grants has a word that is none.
+    #[error("bad grants: {}", Named(.0))]
+    BadGrants(&'a str),
+    /// A public routine does what is not granted: which one, what, and where.
+    #[error("refused: {}", .0)]
+    NotGranted(String),
     /// The verifier refuses an image that was explained.
     #[error(transparent)]
     Explained(Reject),
 }
 
-impl TextFault<'_> {
-    /// What more there is to say of the fault, as diagnostics: lines `FILE:LINE: error: ..`. Empty if there is no more, or no memory.
-    pub fn diagnostics(&self, alloc: Global) -> Vec<u8> {
+impl Diagnosed for TextFault<'_> {
+    fn diagnostics(&self, alloc: Global) -> Vec<u8> {
         match self {
+            TextFault::Stream(fault) => fault.diagnostics(alloc),
             TextFault::Assemble(faulty) => faulty.diagnostics(alloc),
+            TextFault::Source(faulty) => faulty.diagnostics(alloc),
             TextFault::Refused(refused) => refused.image.told(alloc),
             _ => Vec::new(alloc),
         }

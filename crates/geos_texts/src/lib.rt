@@ -6,9 +6,15 @@
 mod commands;
 mod diagnostics;
 mod fault;
+mod grants;
 mod requests;
 mod runnable;
+mod sources;
 
 pub use fault::{FaultyText, Refused, TextFault};
-pub use requests::{assemble, budget, check, explain, explain_script, list};
+pub use grants::keep_to_grants;
+pub use requests::{
+    assemble, assemble_all, budget, check, explain, explain_script, list, read_and_warn,
+};
 pub use runnable::Runnable;
+pub use sources::FaultySource;

@@ -1,37 +1,73 @@
 //! The requests on texts and images that a path names.
 
 use crate::commands::{
-    Explained, assemble_all_rows_bytes, assemble_bytes, begins_as_image, check_bytes,
-    explain_bytes, explain_text_bytes, list_bytes,
+    Explained, assemble_all_rows_bytes, begins_as_image, check_bytes, explain_bytes,
+    explain_text_bytes, list_bytes, made_of_text,
 };
 use crate::fault::{FaultyText, Refused, TextFault};
-use crate::runnable::Runnable;
-use geos_asm::{AssembleError, BudgetError, with_least_budgets};
+use crate::grants::effect_lines;
+use crate::runnable::{Runnable, read_completed};
+use crate::sources::is_source;
+use geos_asm::{AssembleError, BudgetError, Budgeted, completed, find_budgets};
+use geos_image::Image;
 use geos_input::{MOST_BYTES, ScriptFault};
 use geos_scripts::{BadLines, NameUse, tell_bad_lines};
-use geos_shell::{StreamFault, print, print_lines, read, write};
+use geos_shell::{Reports, StreamFault, print, print_lines, read, tell, write};
+use geos_verify::{Reject, check as check_image};
+use std::alloc::Global;
 
 /// The most bytes that are read of a file: one more than a text may have, and more than any image has.
 pub(crate) const MOST_READ: u64 = MOST_BYTES as u64 + 1;
 
-/// Writes the image of a text to the path `image`, with all rows or with those at its key places. `TextFault::TakesVersion2` if all rows are
-/// wanted of a text that borrows a slot; otherwise the faults of `geos_asm::assemble` and of the two streams.
-pub fn assemble<'a>(
+/// Writes the image of an assembly text with all rows to the path `image`. `TextFault::TakesVersion2` if the text borrows a slot, and
+/// `TextFault::AllRowsOfSource` if `text` names a source; otherwise the faults of `assemble`.
+pub fn assemble_all<'a>(
     rt: &HostRuntime,
     text: &'a str,
     image: &'a str,
-    all_rows: bool,
 ) -> Result<(), TextFault<'a>> {
+    if is_source(text) {
+        return Err(TextFault::AllRowsOfSource);
+    }
     let bytes = read(rt, text, MOST_READ)?;
-    let made = if all_rows {
-        assemble_all_rows_bytes(rt.alloc(), &bytes)
-    } else {
-        assemble_bytes(rt.alloc(), &bytes).map(Some)
-    };
-    match made {
+    match assemble_all_rows_bytes(rt.alloc(), &bytes) {
         Ok(Some(made)) => Ok(write(rt, image, &made, text)?),
         Ok(None) => Err(TextFault::TakesVersion2),
         Err(fault) => Err(not_assembled(text, bytes, fault)),
+    }
+}
+
+/// Writes the image of a text to the path `image`, with rows at its key places, and reports warnings, if they are wanted. The faults are
+/// those of `geos_asm::assemble` and of the two streams.
+pub fn assemble<'a>(
+    rt: &HostRuntime,
+    reports: Reports,
+    text: &'a str,
+    image: &'a str,
+) -> Result<(), TextFault<'a>> {
+    if is_source(text) {
+        let made = Runnable::read(rt, text)?;
+        return Ok(write(rt, image, &made.image, text)?);
+    }
+    let bytes = read(rt, text, MOST_READ)?;
+    match made_of_text(rt.alloc(), &bytes) {
+        Ok(made) => {
+            let made = Runnable {
+                path: text,
+                image: made.image,
+                lines: made.lines,
+            };
+            warn(rt, reports, &made);
+            Ok(write(rt, image, &made.image, text)?)
+        }
+        Err(fault) => Err(not_assembled(text, bytes, fault)),
+    }
+}
+
+/// Reports the warnings about a text, if they are wanted.
+fn warn(rt: &HostRuntime, reports: Reports, image: &Runnable<'_>) {
+    if reports.warnings {
+        tell(rt, &image.warnings(rt.alloc()));
     }
 }
 
@@ -40,27 +76,86 @@ fn not_assembled<'a>(path: &'a str, text: Vec<u8>, fault: AssembleError) -> Text
     TextFault::Assemble(FaultyText { path, text, fault })
 }
 
-/// Writes a text with the least budget of each routine to the path `new`. `TextFault::Budget` if no budgets are enough.
-pub fn budget<'a>(rt: &HostRuntime, text: &'a str, new: &'a str) -> Result<(), TextFault<'a>> {
-    let bytes = read(rt, text, MOST_READ)?;
-    match with_least_budgets(rt.alloc(), &bytes) {
-        Ok(made) => Ok(write(rt, new, &made, text)?),
-        Err(BudgetError::Assemble(fault)) => Err(not_assembled(text, bytes, fault)),
+/// The fault of a text with the least budgets that the verifier refuses.
+fn refused<'a>(
+    alloc: Global,
+    path: &'a str,
+    image: &Image,
+    lines: Vec<u32>,
+    reject: Reject,
+) -> TextFault<'a> {
+    match geos_image::write(alloc, image) {
+        Ok(bytes) => TextFault::Refused(Refused {
+            image: Runnable {
+                path,
+                image: bytes,
+                lines: Some(lines),
+            },
+            reject,
+        }),
+        Err(_) => TextFault::Stream(StreamFault::Memory),
+    }
+}
+
+/// The text of the path with the least budgets, if the verifier accepts it.
+fn accepted_with_least<'a>(
+    alloc: Global,
+    path: &'a str,
+    text: Vec<u8>,
+) -> Result<Vec<u8>, TextFault<'a>> {
+    match find_budgets(alloc, &text) {
+        Ok(Budgeted { text: new, made }) => match check_image(made.image) {
+            Ok(_checked) => Ok(new),
+            Err((image, reject)) => Err(refused(alloc, path, &image, made.lines, reject)),
+        },
+        Err(BudgetError::Assemble(fault)) => match completed(alloc, text) {
+            Ok(text) => Err(not_assembled(path, text, fault)),
+            Err(_) => Err(TextFault::Stream(StreamFault::Memory)),
+        },
         Err(fault) => Err(TextFault::Budget(fault)),
     }
 }
 
-/// Prints the listing of an image, or of the image of a text. `TextFault::Read` if the bytes begin as an image does and are none.
+/// Writes a text with the least budget of each routine to the path `new`, which is that of the text if it is changed in place.
+/// `TextFault::Budget` if no budgets are enough, and `TextFault::Refused` if the verifier refuses the text with them; then nothing is
+/// written.
+pub fn budget<'a>(
+    rt: &HostRuntime,
+    text: &'a str,
+    new: &'a str,
+    in_place: bool,
+) -> Result<(), TextFault<'a>> {
+    let bytes = read(rt, text, MOST_READ)?;
+    let made = accepted_with_least(rt.alloc(), text, bytes)?;
+    // A text that is changed in place is no source that has to stay.
+    let source = if in_place { "" } else { text };
+    Ok(write(rt, new, &made, source)?)
+}
+
+/// Reads what a path names, as `Runnable::read`, and reports the warnings about a text, if they are wanted.
+pub fn read_and_warn<'a>(
+    rt: &HostRuntime,
+    reports: Reports,
+    path: &'a str,
+) -> Result<Runnable<'a>, TextFault<'a>> {
+    let image = Runnable::read(rt, path)?;
+    warn(rt, reports, &image);
+    Ok(image)
+}
+
+/// Prints the listing of an image, or of the image of a text, and comments with the effects of each routine. `TextFault::Read` if the bytes begin as an image does and are none.
 pub fn list<'a>(rt: &HostRuntime, path: &'a str) -> Result<(), TextFault<'a>> {
     let image = Runnable::read(rt, path)?.image;
     let text = list_bytes(rt.alloc(), &image)?;
-    Ok(print(rt, &text)?)
+    let effects = effect_lines(rt.alloc(), &image)?;
+    print(rt, &text)?;
+    Ok(print(rt, &effects)?)
 }
 
-/// Prints `accepted` if the image, or the image of a text, may run. `TextFault::Refused` if the verifier refuses it, and `TextFault::Read` if
+/// Prints `accepted` if the image, or the image of a text, may run, and reports warnings about a text, if they are wanted. `TextFault::Refused` if the verifier refuses it, and `TextFault::Read` if
 /// the bytes begin as an image does and are none.
-pub fn check<'a>(rt: &HostRuntime, path: &'a str) -> Result<(), TextFault<'a>> {
-    let image = Runnable::read(rt, path)?;
+pub fn check<'a>(rt: &HostRuntime, reports: Reports, path: &'a str) -> Result<(), TextFault<'a>> {
+    let image = read_and_warn(rt, reports, path)?;
     match check_bytes(rt.alloc(), &image.image)? {
         None => Ok(print(rt, b"accepted\n")?),
         Some(reject) => Err(TextFault::Refused(Refused { image, reject })),
@@ -103,7 +198,11 @@ fn explained<'a>(rt: &HostRuntime, bytes: &[u8]) -> Result<Explained, TextFault<
 /// Prints the listing of an image, or the lines of a text, with what is known at each instruction. After that, `TextFault::Explained` if
 /// the verifier refuses the image, and `TextFault::Unexplained` if the text is not assembled.
 pub fn explain<'a>(rt: &HostRuntime, path: &'a str) -> Result<(), TextFault<'a>> {
-    let bytes = read(rt, path, MOST_READ)?;
+    let bytes = if is_source(path) {
+        Runnable::read(rt, path)?.image
+    } else {
+        read_completed(rt, path)?
+    };
     let explained = explained(rt, &bytes)?;
     print_lines(rt, &explained.text)?;
     match explained.reject {

@@ -1,13 +1,28 @@
 //! What a path names is made an image, so that it can be checked and run.
 
-use crate::commands::{Made, image_of};
+use crate::commands::{Made, begins_as_image, image_of};
 use crate::fault::{FaultyText, TextFault};
 use crate::requests::MOST_READ;
+use crate::sources::{compiled, is_source};
+use geos_asm::completed;
 use geos_explain::diagnose;
 use geos_image::ReadError;
-use geos_shell::read;
+use geos_lints::warnings;
+use geos_shell::{Named, StreamFault, read};
 use geos_verify::{check, refused_places};
 use std::alloc::Global;
+
+/// Reads an image or a text. A draft, in which `?` stands for the budget of a routine, comes with the least budgets.
+pub(crate) fn read_completed<'a>(
+    rt: &HostRuntime,
+    path: &'a str,
+) -> Result<Vec<u8>, StreamFault<'a>> {
+    let bytes = read(rt, path, MOST_READ)?;
+    if begins_as_image(&bytes) {
+        return Ok(bytes);
+    }
+    completed(rt.alloc(), bytes).map_err(|_| StreamFault::Memory)
+}
 
 /// An image that a path names, or that is made of the text there.
 #[derive(Debug, Drop)]
@@ -21,10 +36,15 @@ pub struct Runnable<'a> {
 }
 
 impl<'a> Runnable<'a> {
-    /// Reads what a path names: an image, or a text, which is assembled. `TextFault::Stream` if the path cannot be read, and
-    /// `TextFault::Assemble` if the text has no image.
+    /// Reads what a path names: an image; a source, which is compiled; or a text, which is assembled, a draft with the least budgets.
+    /// `TextFault::Stream` if the path cannot be read, `TextFault::Source` if the source has a fault, and `TextFault::Assemble` if the text
+    /// has no image.
     pub fn read(rt: &HostRuntime, path: &'a str) -> Result<Runnable<'a>, TextFault<'a>> {
-        let bytes = read(rt, path, MOST_READ)?;
+        if is_source(path) {
+            let text = read(rt, path, MOST_READ)?;
+            return compiled(rt.alloc(), path, &text);
+        }
+        let bytes = read_completed(rt, path)?;
         match image_of(rt.alloc(), bytes) {
             Ok(Made { image, lines }) => Ok(Runnable { path, image, lines }),
             Err(not_made) => Err(TextFault::Assemble(FaultyText {
@@ -49,6 +69,31 @@ impl<'a> Runnable<'a> {
                 let lines = self.lines().unwrap_or(&[]);
                 Ok(diagnose(alloc, file, lines, &image, &refused_places(&image))?)
             }
+        }
+    }
+
+    /// Warnings about a text whose image the verifier accepts: lines `FILE:LINE: warning: ..`. Empty if there are none, or if there is no
+    /// memory.
+    pub fn warnings(&self, alloc: Global) -> Vec<u8> {
+        match self.warned(alloc) {
+            Ok(told) => told,
+            Err(_) => Vec::new(alloc),
+        }
+    }
+
+    fn warned(&self, alloc: Global) -> Result<Vec<u8>, ReadError> {
+        let Some(lines) = self.lines() else {
+            return Ok(Vec::new(alloc));
+        };
+        // The author of a source did not write its instructions.
+        if is_source(self.path) {
+            return Ok(Vec::new(alloc));
+        }
+        let path = Named(self.path);
+        let file = format!(in alloc; "{path}")?;
+        match check(geos_image::read(alloc, &self.image)?) {
+            Ok(checked) => Ok(warnings(alloc, &file, lines, checked.image())?),
+            Err(_) => Ok(Vec::new(alloc)),
         }
     }
 }

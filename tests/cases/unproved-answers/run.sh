@@ -39,6 +39,11 @@ same explain "$folder/other/deep/bad.asm"
 same explain absent.asm
 same explain "$folder/absent/program"
 same trace other/deep/add.asm add 2 3 --steps 2
+cp "$top/examples/add.tkv" other/deep/add.tkv
+same call "$folder/other/deep/add.tkv" add
+printf 'pub fn f() { x = 1; }\n' >other/deep/bad.tkv
+same check "$folder/other/deep/bad.tkv" --diagnostics
+same --no-warnings call other/deep/add.asm add 2 3 --grant output
 same asm other/deep/add.asm -
 same budget other/deep/add.asm
 same budget other/deep/bad.asm -

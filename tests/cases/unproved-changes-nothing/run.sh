@@ -20,6 +20,8 @@ proves trace counter.asm count --file counter.vm
 proves asm add.asm add.image
 proves asm --all-rows -- add.asm -image
 proves budget add.asm add.least
+proves budget add.asm --in-place
+proves --diagnostics call counter.asm --file counter.vm
 proves dump counter.vm
 proves map counter.vm
 GEOS_PROVED=1

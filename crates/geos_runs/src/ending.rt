@@ -1,0 +1,59 @@
+//! What becomes of changed blocks at the end of a run on a VM file.
+
+use crate::fault::RunFault;
+use crate::manner::Manner;
+use geos_kernel::Kernel;
+use geos_shell::{EndCommit, Named, tell};
+use geos_terms::Refusal;
+use vm_file::{FileDevice, How};
+
+/// The handles of blocks are from 1 to this one.
+const MOST_HANDLES: u16 = 1024;
+
+/// How many blocks of the file are marked as changed.
+fn changed_blocks(kernel: &Kernel<FileDevice>) -> usize {
+    (1..=MOST_HANDLES)
+        .filter(|handle| kernel.marked(*handle))
+        .count()
+}
+
+/// Reports changed blocks of the file with the path that no commit has kept, as a diagnostic.
+fn tell_of_lost(rt: &HostRuntime, path: &str, kernel: &Kernel<FileDevice>) {
+    let changed = changed_blocks(kernel);
+    if changed == 0 {
+        return;
+    }
+    let path = Named(path);
+    if let Ok(note) = format!(in rt.alloc();
+        "{path}: note: changed blocks that are not kept: {changed}; commit them by update or save, or give --update or --save\n"
+    ) {
+        tell(rt, note.as_bytes());
+    }
+}
+
+/// Ends a run on the file with the path. If it came to its end, it commits as asked; `RunFault::NotDone` if the commit is refused.
+pub(crate) fn ended<'a>(
+    rt: &HostRuntime,
+    manner: &Manner,
+    path: &str,
+    kernel: &mut Kernel<FileDevice>,
+    done: Result<(), RunFault<'a>>,
+) -> Result<(), RunFault<'a>> {
+    let how = match manner.commit {
+        Some(EndCommit::Update) if done.is_ok() => How::Update,
+        Some(EndCommit::Save) if done.is_ok() => How::Save,
+        _ => {
+            if manner.wants_notes {
+                tell_of_lost(rt, path, kernel);
+            }
+            return done;
+        }
+    };
+    if !kernel.vm_unlocked() {
+        return Err(RunFault::NotDone(Refusal::Locked.number()));
+    }
+    match kernel.commit(how) {
+        Ok(()) => Ok(()),
+        Err(refusal) => Err(RunFault::NotDone(refusal.number())),
+    }
+}
