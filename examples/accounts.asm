@@ -1,7 +1,7 @@
 ; Accounts in the VM file. An account is a block whose user ID is the account's number, with a chunk for its money, a word; that is
-; the first chunk of its block, and has the handle 16. A payment happens whole or not at all.
+; the first chunk of its block, and has the handle 16. A payment is atomic.
 
-; Opens the account w0 with the money w1, if it is not there; prints the refusal's number where it can't.
+; Opens the account w0 with the money w1, if it does not exist; prints the refusal's number if it can't.
 routine open public budget 14
         LDI w2 0
         VFIND w3 w2 w0 not_made        ; the lowest handle above 0 with this user ID
@@ -17,7 +17,7 @@ make:
         VSAVE not_saved
         RET
 not_saved:
-        VREVERT not_made               ; the file's blocks are the saved ones again
+        VREVERT not_made               ; restores the saved blocks
         JMP not_made
 undo:
         VUNLOCK s0
@@ -27,29 +27,29 @@ not_made:
 open_end:
         RET
 
-; Pays w2 from the account w0 to the account w1. Prints 1 where that is done and saved, and 0 where it can't be done. Where it can't
-; be saved, nor be taken back, it stands in memory, whole: then the refusal's number is printed.
+; Pays w2 from the account w0 to the account w1. Prints 1 if this is done and saved, and 0 if it can't be done. If it can neither
+; be saved nor undone, all of it is in memory, and the refusal's number is printed.
 routine pay public budget 26
         LDI w3 0
-        VFIND w4 w3 w0 none            ; 0 where there is no such account, and VLOCK is refused
+        VFIND w4 w3 w0 none            ; 0 if there is no such account: VLOCK is refused
         VLOCK s0 w4 none
         VFIND w4 w3 w1 one
         VLOCK s1 w4 one
-        SNE s0 s1 both                 ; to `both` where they are one account
+        SNE s0 s1 both                 ; to `both` if they are one account
         LDI w5 16
         DEREF s0 p0 w5 2 both
         DEREF s1 p1 w5 2 both
         LDW w4 p0 0
-        BLT w4 w2 both                 ; not so much is there
+        BLT w4 w2 both                 ; the account has less money
         SUB w4 w4 w2
         LDW w5 p1 0
         ADD w5 w5 w2
-        BLT w5 w2 both                 ; the sum is past what a word holds
+        BLT w5 w2 both                 ; the sum exceeds a word
         VDIRTY s0                      ; each mark comes before its store
         VDIRTY s1
-        STW w4 p0 0                    ; from here on nothing can be refused but the save
+        STW w4 p0 0                    ; from here on only the save can be refused
         STW w5 p1 0
-        VUNLOCK s1                     ; no block of the file is held where it is written
+        VUNLOCK s1                     ; no block of the file may be locked at a commit
         VUNLOCK s0
         VSAVE unsaved
         LDI w3 1
@@ -57,7 +57,7 @@ routine pay public budget 26
 paid:
         RET
 unsaved:
-        VREVERT kept                   ; the accounts are as they were
+        VREVERT kept                   ; the accounts are unchanged
         JMP none
 kept:
         OUT w7 paid

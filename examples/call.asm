@@ -1,4 +1,4 @@
-; A routine that calls another. It can call such as stand before it alone; `double` is private, so no script calls it.
+; A routine that calls another. It can call only earlier ones; `double` is private, so no script calls it.
 
 routine double budget 2
         ADD w0 w0 w0

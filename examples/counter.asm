@@ -1,14 +1,14 @@
-; A counter in the VM file. It survives runs: each script ends with `update`, and the next run goes on from there.
+; A counter in the VM file. It survives runs: each script ends with `update`, and the next run continues from there.
 ; It is a word in the first chunk of the map block. The first chunk that is made in a block has the handle 16.
 
-; Makes the counter, where the file has no map block yet.
+; Makes the counter, if the file has no map block yet.
 routine start public budget 11
         VGETMAP w0
         LDI w1 0
         BEQ w0 w1 make
         RET
 make:
-        LDI w1 1                   ; a user ID: any but 65,280, which is that of groups
+        LDI w1 1                   ; a user ID: any but 65,280, the one of groups
         VNEW s0 w0 w1 not_made
         LDI w2 2
         LALLOC s0 w3 w2 undo       ; two zero bytes

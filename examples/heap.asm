@@ -4,7 +4,7 @@ routine main public budget 10
         MNEW s0 w0 e
         LDI w1 8
         LALLOC s0 w2 w1 u
-        DEREF s0 p0 w2 8 u      ; p0 leads to 8 bytes at least
+        DEREF s0 p0 w2 8 u      ; p0 leads to at least 8 bytes
         LDI w3 77
         STW w3 p0 0
         LDW w4 p0 0

@@ -1,4 +1,4 @@
-; Routines that work on blocks of the VM file which the script locks and lends them: `@` and a handle in a call.
+; Routines that work on blocks of the VM file, which the script locks and lends them: `@` and a handle in a call.
 ; A block has a word in its first chunk, whose handle is 16.
 
 ; Makes a block with the word w0.
@@ -25,7 +25,7 @@ routine peek public budget 5
 peek_end:
         RET
 
-; Puts w0 into a block.
+; Stores w0 in a block.
 routine poke public budget 5
         in s0=vm@
         out s0=vm@
@@ -51,11 +51,11 @@ routine add public budget 9
 add_end:
         RET
 
-; Puts the word of the second block in front of that of the first, where they are two.
+; Inserts the word of the second block before the word of the first, if these are two blocks.
 routine insert public budget 10
         in s0=vm@ s1=vm@
         out s0=vm@ s1=vm@
-        SNE s0 s1 insert_end           ; from here on p1 stays good where the chunks of s0 move
+        SNE s0 s1 insert_end           ; from here on p1 stays valid when the chunks of s0 move
         VDIRTY s0
         LDI w1 16
         DEREF s1 p1 w1 2 insert_end

@@ -1,5 +1,5 @@
-; Lines of letters, each the one chunk of a block of its own; so its handle is 16 in each block. A script is handed the handle of
-; a line's block, and hands it to the other routines.
+; Lines of letters, each the one chunk of a block of its own; so its handle is 16 in each block. A script gets the handle of
+; a line's block, and passes it to the other routines.
 
 ; Makes an empty line, and prints its handle.
 routine open public budget 7
@@ -15,14 +15,14 @@ undo:
 not_made:
         RET
 
-; Puts the letter w2 in front of the letter at w1 of the line w0; prints the refusal's number where there is no such place.
+; Inserts the letter w2 before the letter at w1 of the line w0; prints the refusal's number if there is no such place.
 routine insert public budget 9
         MLOCK s0 w0 not_inserted
         LDI w3 16
         LDI w4 1
         LINS s0 w3 w1 w4 unlock        ; one zero byte at w1
-        DEREF s0 p0 w3 1 unlock        ; LINS may move the chunk: fetch behind it
-        STCB w2 p0 w1 unlock           ; tested as it runs, since nothing is known of w1
+        DEREF s0 p0 w3 1 unlock        ; LINS may move the chunk: fetch it again
+        STCB w2 p0 w1 unlock           ; tested at run time, since nothing is known of w1
         MUNLOCK s0
         RET
 unlock:
@@ -32,7 +32,7 @@ not_inserted:
 insert_end:
         RET
 
-; Takes out w2 letters at w1 of the line w0; prints the refusal's number where they are not there.
+; Deletes w2 letters at w1 of the line w0; prints the refusal's number if they do not exist.
 routine delete public budget 6
         MLOCK s0 w0 not_deleted
         LDI w3 16
@@ -46,7 +46,7 @@ not_deleted:
 delete_end:
         RET
 
-; Cuts the line w0 to w1 letters; where it has fewer, zeros come in behind them.
+; Cuts the line w0 to w1 letters; if it has fewer, zeros are appended.
 routine cut public budget 5
         MLOCK s0 w0 cut_end
         LDI w2 16
@@ -56,23 +56,23 @@ cut_done:
 cut_end:
         RET
 
-; Puts a copy of the line w1 behind the line w0, where these are two lines and the copy has at most 100 letters.
+; Appends a copy of the line w1 to the line w0, if these are two lines and the copy has at most 100 letters.
 routine join public budget 521
         MLOCK s0 w0 join_end
         MLOCK s1 w1 one
-        SNE s0 s1 both                 ; goes on where they are two blocks, and the row says so from there on
+        SNE s0 s1 both                 ; continues if they are two blocks, and the row knows this from there on
         LDI w2 16
         DEREF s1 p1 w2 0 both
-        PLEN w3 p1                     ; how many letters come in
+        PLEN w3 p1                     ; how many letters are inserted
         CHK w3 100 both
         LSIZE s0 w4 w2 both            ; and where
-        LINS s0 w2 w4 w3 both          ; moves chunks of s0: p1 leads into another block, and stays good
+        LINS s0 w2 w4 w3 both          ; moves chunks of s0: p1 leads into another block, and stays valid
         DEREF s0 p0 w2 0 both
         LDI w5 0
         LDI w6 1
         SETKW k0 w3
 letter:
-        LDCB w1 p1 w5 both             ; refused behind the last letter, which ends the loop
+        LDCB w1 p1 w5 both             ; refused after the last letter, which ends the loop
         STCB w1 p0 w4 both
         ADD w4 w4 w6
         ADD w5 w5 w6

@@ -1,4 +1,4 @@
-; Prints 1, 2, 4 and 8. LOOP goes back as often as its counter says.
+; Prints 1, 2, 4 and 8. LOOP jumps back as often as its counter says.
 
 routine doubles public budget 15
         LDI w0 1

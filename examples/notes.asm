@@ -1,7 +1,7 @@
 ; A note book in the VM file. Its notes are items of one group; a note has 4 bytes, a number and a place. The map item is the
 ; list of the notes: their handles, a word each, the newest first.
 
-; Makes the group and the list, where the file has no map item yet.
+; Makes the group and the list, if the file has no map item yet.
 routine open public budget 8
         IGETMAP w0 w1
         LDI w2 0
@@ -17,7 +17,7 @@ undo_open:
 not_made:
         RET
 
-; Adds the note with number w0 and place w1; prints the refusal's number where it can't.
+; Adds the note with number w0 and place w1; prints the refusal's number if it can't.
 routine add public budget 15
         IGETMAP w2 w3
         ILOCK s0 p0 w2 w3 0 not_added  ; the group stays in memory from here on
@@ -25,9 +25,9 @@ routine add public budget 15
         INEW w5 w2 w4 unlock           ; the note
         LDI w4 0
         LDI w6 2
-        IINS w2 w3 w4 w6 undo          ; room for its handle, in front of the others
+        IINS w2 w3 w4 w6 undo          ; room for its handle, before the others
         IDIRTY s0
-        DEREF s0 p0 w3 2 unlock        ; INEW and IINS move items: fetch behind them
+        DEREF s0 p0 w3 2 unlock        ; INEW and IINS move items: fetch again
         STW w5 p0 0
         DEREF s0 p0 w5 4 unlock
         STW w0 p0 0
@@ -51,7 +51,7 @@ routine print public budget 807
         LDI w3 2
         SETK k0 99
 next:
-        LDCW w4 p0 w2 printed          ; the next handle; refused behind the last one, which ends the loop
+        LDCW w4 p0 w2 printed          ; the next handle; refused after the last one, which ends the loop
         DEREF s0 p1 w4 4 printed
         LDW w5 p1 0
         OUT w5 printed
@@ -64,12 +64,12 @@ printed:
 not_printed:
         RET
 
-; Forgets note w0, counted from 0 in the order of `print`; prints the refusal's number where there is none.
+; Deletes note w0, counted from 0 in the order of `print`; prints the refusal's number if there is none.
 routine forget public budget 10
         in w0<=32767
         IGETMAP w1 w2
         ILOCK s0 p0 w1 w2 0 not_forgotten
-        MULI w3 w0 2                   ; where its handle stands; the line `in` keeps that a word
+        MULI w3 w0 2                   ; where its handle is; the line `in` bounds this to a word
         LDCW w4 p0 w3 kept
         LDI w5 2
         IDEL w1 w2 w3 w5 kept

@@ -1,5 +1,5 @@
-; A list of records that outlives its calls. A record has 4 bytes, a number and a value. Each routine is handed the handle
-; of the block in w0 and that of the array in w1, and locks the block for itself.
+; A list of records that outlives its calls. A record has 4 bytes, a number and a value. Each routine gets the handle
+; of the block in w0 and the handle of the array in w1, and locks the block itself.
 
 ; Makes the list, and prints both handles.
 routine start public budget 6
@@ -19,7 +19,7 @@ routine add public budget 10
         CACOUNT s0 w4 w1 added
         LDI w5 1
         SUB w4 w4 w5
-        CAELT s0 p0 w1 w4 4 added      ; CAADD may have moved the chunk: fetch the new record behind it
+        CAELT s0 p0 w1 w4 4 added      ; CAADD may have moved the chunk: fetch the new record after it
         STW w2 p0 0
         STW w3 p0 2
 added:
@@ -27,7 +27,7 @@ added:
 not_added:
         RET
 
-; Takes out the record at index w2; prints the refusal's number where there is none.
+; Deletes the record at index w2; prints the refusal's number if there is none.
 routine drop public budget 5
         MLOCK s0 w0 not_dropped
         CADEL s0 w1 w2 x
@@ -47,7 +47,7 @@ routine show public budget 710
         BEQ w2 w3 shown
         LDI w5 1
         SUB w2 w2 w5
-        CHK w2 99 shown            ; goes on where w2 is at most 99, which bounds the turns of the loop
+        CHK w2 99 shown            ; continues if w2 is at most 99, which bounds the iterations of the loop
         SETKW k0 w2
 next:
         CAELT s0 p0 w1 w3 4 shown

@@ -1,4 +1,4 @@
-; No numbers of steps pay for a loop without a counter: this is not assembled, but for the line of its routine.
+; No numbers of steps pay for a loop without a counter: this text is not assembled.
 
 routine forever public budget 3
 again:

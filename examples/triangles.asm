@@ -1,4 +1,4 @@
-; Prints the triangular numbers 1, 3, 6 and 10. What a turn of the loop does stands behind the return.
+; Prints the triangular numbers 1, 3, 6 and 10. The body of the loop is after the return.
 
 routine triangles public budget 29
         LDI w0 0
