@@ -3,7 +3,7 @@
     python3 tools/topics.py [FILE]
 
 FILE is crates/geos_topics/src/tables.rt if it is not given. Instructions and refusals are those of docs/INSTRUCTIONS.md, rules those of
-docs/VERIFIER.md with the sentences and cures of docs/ERRORS.md, and the faults of a text those of docs/ERRORS.md. The example of an
+docs/VERIFIER.md with the sentences and cures of docs/ERRORS.md, and the faults of a text those of docs/FORMATS.md. The example of an
 instruction is its first use in the texts of examples/.
 """
 
@@ -104,7 +104,7 @@ def main() -> None:
         + (folded(f"Cure: {cures[rule][1]}.") if rule in cures else "")
         for rule, (name, words) in listed("VERIFIER.md", "`geos_verify::Rule`").items()
     ]
-    faults = [f"why {n} {name}\n" + folded(f"{words}.") for n, (name, words) in listed("ERRORS.md", "named as in").items()]
+    faults = [f"why {n} {name}\n" + folded(f"{words}.") for n, (name, words) in listed("FORMATS.md", "named as in").items()]
     refused = [f"refused {n} {name}\n" + folded(f"{words}.") for n, (name, words) in refusals.items()]
     parts = [
         "//! What is said of instructions, rules, refusals and faults. Made by tools/topics.py from the documents.\n",
