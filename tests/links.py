@@ -7,7 +7,10 @@ A link is relative, and may have an anchor: the file exists, and a heading of it
 - a path that begins with a folder of the repository, a crate or a folder of crates, as `specs/Rules` without its suffix;
 - a file's name with a suffix of ours;
 - a definition, as `specs/Rules.Accepted` or `Rules.Accepted`: a file of that module exists, and has the word;
-- an item of a crate, as `geos_verify::check`: a source of the crate has the word.
+- an item of a crate, as `geos_verify::check`: a source of the crate has the word;
+- a method, as `VmFile::commit`: the sources of one crate have both words;
+- a clause, function or definition, in the README of a crate each single word: a source of this crate, or of one that the page names, has
+  it. On other pages only a word that looks like an item, as `take_all` or `IsTaken`: some crate is or has it, or the library.
 
 Prints a line for each that is missing, with the file and the line.
 """
@@ -24,7 +27,13 @@ PATH = re.compile(r"[\w.*-]+(?:/[\w.*-]+)+/?")
 NAME = re.compile(r"[\w-]+\.(?:rt|antt|py|md)")
 DEFINITION = re.compile(r"((?:(?:\w+/)?(?:specs|proofs)/)?[A-Z]\w*)\.(\w+)")
 ITEM = re.compile(r"(\w+)::(?:\w+::)*(\w+)")
+METHOD = re.compile(r"([A-Z]\w*)::(\w+)")
+WORD = re.compile(r"[A-Za-z]\w+")
+# What looks like an item on a page that is no crate's.
+LIKE_AN_ITEM = re.compile(r"[A-Za-z]+_\w+|[A-Z][a-z0-9]+[A-Z]\w*")
 OF_CRATES = ("src", "specs", "proofs", "must-fail")
+# Folders with items that no crate has: the library for C and other languages, and the second readings.
+OTHERS = ("library", "bindings", "tests")
 SUFFIXES = ("", ".antt", ".rt", ".edit")
 
 
@@ -82,6 +91,40 @@ class Files:
         """The words of a crate's sources."""
         return set().union(*map(words_in, (self.top / "crates" / crate / "src").glob("*.rt")))
 
+    @functools.cached_property
+    def paths_of(self) -> dict[str, list[Path]]:
+        """The sources, definitions and lemmas of each crate."""
+        paths: dict[str, list[Path]] = {crate.name: [] for crate in self.crates}
+        for path in self.paths:
+            parts = path.relative_to(self.top).parts
+            if parts[0] == "crates" and len(parts) > 3 and path.suffix in (".rt", ".antt"):
+                paths[parts[1]].append(path)
+        return paths
+
+    @functools.cache
+    def names_of(self, crate: str) -> set[str]:
+        """The words of a crate's sources, definitions and lemmas, and its name."""
+        return set().union({crate}, *(words_in(path) for path in self.paths_of[crate]))
+
+    @functools.cached_property
+    def all_names(self) -> set[str]:
+        """The names of all crates, and the words of the other folders with items."""
+        others = [path for path in self.paths if path.relative_to(self.top).parts[0] in OTHERS and path.suffix != ".md"]
+        texts = [path for path in others if path.suffix in (".h", ".hpp", ".c", ".cpp", ".py", ".rs", ".sh")]
+        return set().union(*(self.names_of(crate.name) for crate in self.crates), *map(words_in, texts))
+
+    @functools.cache
+    def names_on(self, page: Path) -> set[str]:
+        """What a single word of a crate's README may name: what this crate has, and the crates that the page names."""
+        named = words_in(page) & {crate.name for crate in self.crates}
+        return set().union(*(self.names_of(crate) for crate in {page.parent.name, *named}))
+
+    def is_unknown(self, word: str, page: Path) -> bool:
+        """Whether a single word names nothing."""
+        if page.parent in self.crates:
+            return word not in self.names_on(page)
+        return LIKE_AN_ITEM.fullmatch(word) is not None and word not in self.all_names
+
     def is_missing(self, span: str, page: Path) -> bool:
         """Whether a code span names what there is not."""
         if match := DEFINITION.fullmatch(span):
@@ -89,8 +132,12 @@ class Files:
         if PATH.fullmatch(span):
             first = span.split("/")[0]
             return (first in self.firsts or first in OF_CRATES) and not self.found(span, page)
+        if match := METHOD.match(span):
+            return not any({match[1], match[2]} <= self.words_of(crate.name) for crate in self.crates)
         if match := ITEM.match(span):
             return self.top / "crates" / match[1] in self.crates and match[2] not in self.words_of(match[1])
+        if WORD.fullmatch(span):
+            return self.is_unknown(span, page)
         return NAME.fullmatch(span) is not None and span not in self.names
 
 
