@@ -1,10 +1,8 @@
--- Edges that are noted, and edges that are left of a list.
-use Rattle.std.proofs.Common.{◌≡◌, ◌≤◌, ◌<◌, ℕ, ◌+◌, Bool, List, [], Option, None, ap, length, get_or, set}
+-- Edges that are noted.
+use Rattle.std.proofs.Common.{◌≡◌, ◌<◌, ℕ, Bool, List, [], Option, None, ap, length, get_or, set}
 use Rattle.std.specs.Prelude.{if◌then◌else◌}
 use Rattle.control_graph.specs.declared.arcs.Arc.{Arc}
-use Rattle.control_graph.specs.declared.leads.Lead.{Lead}
 use Rattle.control_graph.specs.Arcs.{arc_at}
-use Rattle.control_graph.specs.Led.{IsAmong}
 use Rattle.std.proofs.lemmas.List.{get_or-set_same, get_or-set_other}
 
 pub arc-other : (arcs : List (List (Option Arc))) (p pc : ℕ) (both : List (Option Arc)) (branch : Bool) → (pc ≡ p → ⊥)
@@ -14,7 +12,3 @@ arc-other arcs p pc both branch ne = ap (λ (x : List (Option Arc)). get_or x (i
 pub arc-same : (arcs : List (List (Option Arc))) (p : ℕ) (both : List (Option Arc)) (branch : Bool) → p < length arcs
     → arc_at (set arcs p both) p branch ≡ get_or both (if branch then 1 else 0) None
 arc-same arcs p both branch within = ap (λ (x : List (Option Arc)). get_or x (if branch then 1 else 0) None) (get_or-set_same arcs p both [] within)
-
--- the edge of a pc is among those that are left of a list, so many of which were taken
-abbrev pub IsLeft : List (List (Option Lead)) → ℕ → Option Lead → ℕ → Bool → Type 0
-IsLeft behind taken lead pc branch = (n : ℕ) × (n + taken ≤ 8192) × IsAmong behind n lead pc branch

@@ -1,9 +1,3 @@
-pub mod Arranging
-pub mod Deep
-pub mod Deepening
 pub mod Edges
-pub mod Gathering
-pub mod Led
-pub mod Parting
 pub mod Piled
 pub mod Placing

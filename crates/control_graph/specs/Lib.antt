@@ -1,10 +1,3 @@
 pub mod Arcs
-pub mod Arranged
-pub mod Depths
-pub mod Gathers
-pub mod Jumps
-pub mod Led
 pub mod Orders
-pub mod Parts
 pub mod Waits
-pub mod Ways

@@ -1,8 +1,7 @@
 //! The edges of a routine, from each place and into it.
 
-ghost use Rattle.std.specs.Prelude.{◌≡◌, ◌<◌, None, slice_index_or, IfOk};
+ghost use Rattle.std.specs.Prelude.{◌≡◌, ◌<◌, None};
 ghost use Rattle.control_graph.specs.Arcs.{arc_at};
-ghost use Rattle.control_graph.specs.Led.{NoEdges, behind_at};
 
 use crate::arcs::Arc;
 use crate::leads::{Lead, Leads};
@@ -19,13 +18,10 @@ pub struct Graph {
 }
 
 impl Graph {
-    ghost use Rattle.std.specs.Prelude.{◌≡◌, ◌≢◌, ◌≤◌, ◌<◌, ◌+◌, ℕ, Bool, None, if◌then◌else◌, slice_index_or, IfOk};
-    ghost use Rattle.control_graph.specs.Led.{LeadsFrom, AreLedSoFar};
+    ghost use Rattle.std.specs.Prelude.{◌≡◌, ◌≢◌, ◌<◌, ℕ, Bool, None, if◌then◌else◌};
 
     /// There are no edges.
-    pub fn new(alloc: Global) -> Result<Graph, AllocError>
-        ensures { IfOk result NoEdges }
-    {
+    pub fn new(alloc: Global) -> Result<Graph, AllocError> {
         let arcs = Table::new(alloc, [None, None])?;
         let leads = Leads::new(alloc)?;
         Ok(Graph { arcs, leads })
@@ -34,8 +30,7 @@ impl Graph {
     /// There are no edges, and none are listed that lead to the places from a pc on.
     pub fn clear_from(&mut self, pc: u16)
         requires { pc < 4096 }
-        ensures none { (at : ℕ) (branch : Bool) → arc_at self.new.arcs at branch ≡ None }
-        ensures led { AreLedSoFar pc pc self.new.arcs self.new.leads }
+        ensures { (at : ℕ) (branch : Bool) → arc_at self.new.arcs at branch ≡ None }
     {
         self.arcs.fill_from(0, [None, None]);
         // For what its law says.
@@ -48,8 +43,6 @@ impl Graph {
         requires { pc < 4096 }
         ensures here { (branch : Bool) → arc_at self.new.arcs pc branch ≡ (if branch then branching else along) }
         ensures others { (at : ℕ) (branch : Bool) → at ≢ pc → arc_at self.new.arcs at branch ≡ arc_at self.old.arcs at branch }
-        ensures led { (low : ℕ) → low ≤ pc → LeadsFrom low along → LeadsFrom low branching
-            → AreLedSoFar low pc self.old.arcs self.old.leads → AreLedSoFar low (pc + 1) self.new.arcs self.new.leads }
     {
         // For what its law says.
         self.arcs.lengths();
@@ -70,15 +63,12 @@ impl Graph {
     /// The first edge into a place.
     pub fn first_into(&self, to: u16) -> Option<Lead>
         requires { to < 4096 }
-        ensures { result ≡ slice_index_or self.now.leads.first to None }
     {
         self.leads.first(to)
     }
 
     /// The next edge into where an edge leads.
-    pub fn next_into(&self, lead: Lead) -> Option<Lead>
-        ensures { result ≡ behind_at self.now.leads.behind lead.from lead.branch }
-    {
+    pub fn next_into(&self, lead: Lead) -> Option<Lead> {
         self.leads.next(lead)
     }
 }

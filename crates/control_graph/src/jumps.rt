@@ -1,7 +1,6 @@
 //! LOOPs' ways to their targets: which are left out, and which pay.
 
-ghost use Rattle.std.specs.Prelude.{◌≡◌, ◌<◌, ℕ, Some, IfSome};
-ghost use Rattle.control_graph.specs.Ways.{LeadsWithin};
+ghost use Rattle.std.specs.Prelude.{◌<◌, Some, IfSome};
 
 use crate::graph::Graph;
 use crate::pieces::{Order, Piece};
@@ -19,13 +18,8 @@ pub enum Jump {
 }
 
 impl Jump {
-    ghost use Rattle.std.specs.Prelude.{◌≡◌};
-    ghost use Rattle.control_graph.specs.Jumps.{pays_in, is_left_out_in};
-
     /// Whether it is a LOOP's that pays in a nest.
-    pub fn pays_in(self, nest: u16) -> bool
-        ensures { result ≡ pays_in nest self }
-    {
+    pub fn pays_in(self, nest: u16) -> bool {
         match self {
             Jump::Pays(other) => other == nest,
             _ => false,
@@ -33,9 +27,7 @@ impl Jump {
     }
 
     /// Whether it is a LOOP's that is left out, or pays in a nest around one.
-    pub fn is_left_out_in(self, nest: u16) -> bool
-        ensures { result ≡ is_left_out_in nest self }
-    {
+    pub fn is_left_out_in(self, nest: u16) -> bool {
         match self {
             Jump::Plain => false,
             Jump::Free => true,
@@ -58,8 +50,6 @@ pub fn lead_within(
 ) -> Option<u16>
     requires { pc < 4096 }
     ensures inside { IfSome result (λ to. to < 4096) }
-    ensures some { IfSome result (LeadsWithin graph.now.arcs jumps.now order.now piece.now pc branch) }
-    ensures all { (to : ℕ) → LeadsWithin graph.now.arcs jumps.now order.now piece.now pc branch to → result ≡ Some to }
 {
     if branch {
         match jumps.at(pc) {

@@ -24,13 +24,10 @@ pub struct Leads {
 }
 
 impl Leads {
-    ghost use Rattle.std.specs.Prelude.{◌≡◌, ◌<◌, ◌≤◌, ℕ, None, slice_index_or, IfOk};
-    ghost use Rattle.control_graph.specs.Led.{behind_at, IsPutIf, AreAdded};
+    ghost use Rattle.std.specs.Prelude.{◌<◌, None};
 
     /// There are no edges.
-    pub(crate) fn new(alloc: Global) -> Result<Leads, AllocError>
-        ensures { IfOk result (λ leads. (to : ℕ) → slice_index_or leads.first to None ≡ None) }
-    {
+    pub(crate) fn new(alloc: Global) -> Result<Leads, AllocError> {
         let (first, behind) = two_tables(alloc, None, [None, None])?;
         Ok(Leads { first, behind })
     }
@@ -38,8 +35,6 @@ impl Leads {
     /// There are no edges into the places from a pc on.
     pub(crate) fn clear_from(&mut self, pc: u16)
         requires { pc < 4096 }
-        ensures first { (to : ℕ) → pc ≤ to → to < 4096 → slice_index_or self.new.first to None ≡ None }
-        ensures behind { self.new.behind ≡ self.old.behind }
     {
         self.first.fill_from(pc, None);
     }
@@ -47,14 +42,10 @@ impl Leads {
     /// An edge comes first among those into where it leads, if there is one; the edge that came first there before.
     fn put(&mut self, from: u16, branch: bool, arc: &Option<Arc>) -> Option<Lead>
         requires { from < 4096 }
-        ensures put { IsPutIf self.old.first self.new.first from branch arc.now result }
-        ensures behind { self.new.behind ≡ self.old.behind }
     {
         let Some(arc) = arc else {
             return None;
         };
-        // For what its law says.
-        self.first.lengths();
         let behind = self.first.at(arc.to);
         self.first.set(arc.to, Some(Lead { from, branch }));
         behind
@@ -63,10 +54,7 @@ impl Leads {
     /// The edges of a place lead to others: that to the next instruction, and that to its target.
     pub(crate) fn add(&mut self, from: u16, arcs: &[Option<Arc>; 2])
         requires { from < 4096 }
-        ensures { AreAdded self.old self.new from (slice_index_or arcs.now 0 None) (slice_index_or arcs.now 1 None) }
     {
-        // For what its law says.
-        self.behind.lengths();
         let [along, branching] = arcs;
         let behind = [
             self.put(from, false, along),
@@ -78,15 +66,12 @@ impl Leads {
     /// The first edge into a place.
     pub(crate) fn first(&self, to: u16) -> Option<Lead>
         requires { to < 4096 }
-        ensures { result ≡ slice_index_or self.now.first to None }
     {
         self.first.at(to)
     }
 
     /// The next edge into where an edge leads.
-    pub(crate) fn next(&self, lead: Lead) -> Option<Lead>
-        ensures { result ≡ behind_at self.now.behind lead.from lead.branch }
-    {
+    pub(crate) fn next(&self, lead: Lead) -> Option<Lead> {
         let [along, branching] = self.behind.get(lead.from);
         if lead.branch { *branching } else { *along }
     }

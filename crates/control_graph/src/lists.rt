@@ -21,33 +21,23 @@ pub(crate) struct Lists {
 }
 
 impl Lists {
-    ghost use Rattle.std.specs.Prelude.{◌≡◌, ◌<◌, ◌+◌, ℕ, None, IfOk, slice_index_or};
-    ghost use Rattle.control_graph.specs.Arranged.{AreListed};
+    ghost use Rattle.std.specs.Prelude.{◌<◌, None};
 
     /// They are empty.
-    pub(crate) fn new(alloc: Global) -> Result<Lists, AllocError>
-        ensures { IfOk result (λ lists. (component : ℕ) → slice_index_or lists.first component None ≡ None) }
-    {
+    pub(crate) fn new(alloc: Global) -> Result<Lists, AllocError> {
         let (first, behind) = two_tables(alloc, None, None)?;
         Ok(Lists { first, behind })
     }
 
     /// They are empty next.
-    pub(crate) fn clear(&mut self)
-        ensures { (component : ℕ → ℕ) (count : ℕ) → AreListed component count count self.new }
-    {
+    pub(crate) fn clear(&mut self) {
         self.first.fill_from(0, None);
     }
 
     /// The place of a number comes first next among those of its component.
     pub(crate) fn put(&mut self, component: u16, n: u16)
         requires { n < 4096 }
-        ensures { (component_of : ℕ → ℕ) (count : ℕ) → component_of n ≡ component → n < count
-            → AreListed component_of count (n + 1) self.old → AreListed component_of count n self.new }
     {
-        // For what their laws say.
-        self.first.lengths();
-        self.behind.lengths();
         if component < MOST_INSTRS {
             self.behind.set(n, self.first.at(component));
             self.first.set(component, Some(Left { n }));
@@ -57,15 +47,12 @@ impl Lists {
     /// The first place of a component.
     pub(crate) fn first(&self, component: u16) -> Option<Left>
         requires { component < 4096 }
-        ensures { result ≡ slice_index_or self.now.first component None }
     {
         self.first.at(component)
     }
 
     /// The next one behind a place.
-    pub(crate) fn next(&self, place: Left) -> Option<Left>
-        ensures { result ≡ slice_index_or self.now.behind place.n None }
-    {
+    pub(crate) fn next(&self, place: Left) -> Option<Left> {
         self.behind.at(place.n)
     }
 }

