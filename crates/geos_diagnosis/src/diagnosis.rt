@@ -4,7 +4,7 @@ ghost use Rattle.std.specs.Prelude.{◌≡◌, ◌<◌, true, length, IfSome, If
 ghost use Rattle.geos_counters.specs.Touching.{KnowsTouched};
 ghost use Rattle.geos_potentials.specs.Constants.{HasLoops};
 ghost use Rattle.geos_potentials.specs.Halts.{IsInTheWay};
-ghost use Rattle.geos_potentials.specs.Reasons.{Halts, IsReason};
+ghost use Rattle.geos_potentials.specs.Reasons.{IsReason};
 ghost use Rattle.geos_potentials.specs.declared.reason.Reason.TheVariants.{InTheWay};
 ghost use Rattle.geos_rows.specs.Reached.{FitWhereReached};
 ghost use Rattle.geos_rows.specs.Why.{MeetAlike};
@@ -141,7 +141,7 @@ fn cause_of_halt(
 ) -> Result<Option<Cause>, AllocError>
     requires touched { KnowsTouched body.now.image.now touching.now }
     requires rows { FitWhereReached body.now.image.now body.now.r known.now }
-    requires way { IsInTheWay body.now.image.now body.now.r known.now search.now halt }
+    requires way { IsInTheWay body.now.image.now body.now.r halt }
     ensures holds { IfOk result (λ cause. IfSome cause (Holds body.now.image.now body.now.r)) }
     ensures tells { IfOk result (λ cause. IfSome cause (TellsOfHalt search.now.splitting.order halt)) }
 {
@@ -233,7 +233,7 @@ impl Tables {
     ) -> Result<Option<Cause>, AllocError>
         requires touched { KnowsTouched body.now.image.now touching.now }
         requires rows { FitWhereReached body.now.image.now body.now.r known.now }
-        requires way { IsInTheWay body.now.image.now body.now.r known.now halted.now.search halted.now.halt }
+        requires way { IsInTheWay body.now.image.now body.now.r halted.now.halt }
         ensures holds { IfOk result (λ cause. IfSome cause (Holds body.now.image.now body.now.r)) }
         ensures tells { IfOk result (λ cause. IfSome cause (TellsOfReason (InTheWay halted.now))) }
     {
@@ -262,7 +262,7 @@ fn cause_of_halted(
 ) -> Result<Option<Cause>, AllocError>
     requires touched { KnowsTouched body.now.image.now touching.now }
     requires rows { FitWhereReached body.now.image.now body.now.r known.now }
-    requires way { IsInTheWay body.now.image.now body.now.r known.now halted.now.search halted.now.halt }
+    requires way { IsInTheWay body.now.image.now body.now.r halted.now.halt }
     ensures holds { IfOk result (λ cause. IfSome cause (Holds body.now.image.now body.now.r)) }
     ensures tells { IfOk result (λ cause. IfSome cause (TellsOfReason (InTheWay halted.now))) }
 {
@@ -316,7 +316,7 @@ fn cause_of_loops(
     halted: &Halted,
 ) -> Result<Cause, AllocError>
     requires rows { FitWhereReached body.now.image.now body.now.r known.now }
-    requires halts { Halts body.now.image.now body.now.r known.now halted.now }
+    requires way { IsInTheWay body.now.image.now body.now.r halted.now.halt }
     ensures holds { IfOk result (Holds body.now.image.now body.now.r) }
     ensures tells { IfOk result (TellsOfReason (InTheWay halted.now)) }
 {

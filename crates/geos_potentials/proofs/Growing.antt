@@ -1,7 +1,7 @@
 -- Numbers that grow, and how far they still can.
 use Rattle.std.proofs.Common.{◌≡◌, ◌≤◌, ◌<◌, ℕ, zero, suc, ◌+◌, ◌*◌, Bool, true, false, not, List, [], ◌∷◌, length, Option, Some, refl, sym, ap, ◌∙◌, subst, arith, inl, inr}
 use lib.Pointwise.{pointwise}
-use Rattle.std.specs.Prelude.{◌&&◌, nat_eq, max, slice_index, slice_index_or, slice_set}
+use Rattle.std.specs.Prelude.{nat_eq, max, slice_index, slice_index_or, slice_set}
 use Rattle.std.proofs.lemmas.Bool.{cases_eq, cases_lt, eq-eqb, false≢true}
 use Rattle.std.proofs.lemmas.Nat.{mul-le}
 use Rattle.geos_verify.specs.Lists.{zip2}
@@ -20,7 +20,6 @@ use Rattle.control_graph.specs.Arcs.{arc_at, taken_from}
 use Rattle.geos_potentials.specs.Arcs.{unit_at, price_of, paid_by, counting_of, AreArcs}
 use Rattle.geos_potentials.specs.Demands.{left_at, left_in, AreRaised, HaveGrown}
 use Rattle.geos_code.specs.Known.{row_of, known_at}
-use Rattle.geos_potentials.specs.Lacks.{PricePasses}
 use Rattle.geos_potentials.specs.Least.{is_free, IsLookedAt, AreLookedAt, AskNoMore, StayAtLoops}
 use Rattle.geos_potentials.proofs.Demand.{is-arc}
 
@@ -83,21 +82,6 @@ grown-on first now next before more pc k = (let one = before pc k in let two = m
 pub price-grows : (pay next : List (List ℕ)) (to : ℕ) (counting : Counting) → HaveGrown pay next → price_of pay to counting ≤ price_of next to counting
 price-grows pay next to (Sets k n) more = mul-le (unit_at pay to k) n (unit_at next to k) n (more to k) (omega arith)
 price-grows pay next to _ more = omega arith
-
--- so one that passes does
-pub price-passes-on : (arcs : List (List (Option Arc))) (pay next : List (List ℕ)) → HaveGrown pay next → PricePasses arcs pay
-    → PricePasses arcs next
-price-passes-on arcs pay next more P = record {
-  pc = P.pc;
-  branch = P.branch;
-  arc = P.arc;
-  read = P.read;
-  past = (let less = price-grows pay next P.arc.to P.arc.counting more in let past = P.past in omega (arith, less, past));
-}
-
-pub either-false : (a b : Bool) (P : Type 0) → (a ≡ false → P) → (b ≡ false → P) → (a && b) ≡ false → P
-either-false true b P first second is = second is
-either-false false b P first second is = first refl
 
 -- At LOOPs
 

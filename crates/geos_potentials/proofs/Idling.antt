@@ -1,6 +1,7 @@
 -- What is noted of counters in a routine is so: where one may not pay by what is noted, it may not.
-use Rattle.std.proofs.Common.{◌≡◌, ◌<◌, ◌⊎◌, ◌+◌, ℕ, zero, suc, Bool, true, false, not, List, [], ◌∷◌, ◌++◌, Option, Some, refl, sym, ap, ◌∙◌, subst, arith, inl, inr}
-use Rattle.std.specs.Prelude.{◌&&◌, ◌||◌, ◌==◌, slice_index_or}
+use Rattle.std.proofs.Common.{◌≡◌, ◌<◌, ◌⊎◌, ◌+◌, ℕ, zero, suc, Bool, true, false, not, List, [], ◌∷◌, ◌++◌, Option, Some, refl, sym, ap, ◌∙◌, subst, arith, inl, inr, None}
+use Rattle.geos_verify.proofs.Places.{if_some}
+use Rattle.std.specs.Prelude.{◌||◌, ◌==◌, slice_index_or, IfSome, slice_get, ◌&&◌}
 use Rattle.std.proofs.lemmas.Bool.{false≢true}
 use Rattle.std.proofs.lemmas.Option.{same_Some}
 use Rattle.geos_opcodes.specs.declared.opcode.Opcode.{Opcode}
@@ -15,19 +16,16 @@ use Rattle.geos_verify.specs.Touched.{touches, noted}
 use Rattle.control_graph.specs.declared.arcs.Arc.{Arc}
 use Rattle.control_graph.specs.declared.arcs.Counting.{Counting}
 use Rattle.geos_potentials.specs.declared.classes.Classes.{Classes}
-use Rattle.control_graph.specs.declared.pieces.Order.{Order}
-use Rattle.control_graph.specs.declared.pieces.Piece.{Piece}
-use Rattle.control_graph.specs.Arcs.{arc_at, keeps, forgets, taken_from}
+use Rattle.control_graph.specs.Arcs.{arc_at, keeps, forgets}
 use Rattle.geos_potentials.specs.Arcs.{unit_at, counting_of, AreArcs}
 use Rattle.geos_counters.specs.Counters.{touched_by}
-use Rattle.geos_code.specs.Code.{is_loop, IsPcOf}
-use Rattle.geos_counters.specs.Idle.{calls_touching, MayNotPay, LeadsIdle, IsIdleWay, IsIdleWayBy, IsNeverPaid, IsNeverPaidBy}
+use Rattle.geos_code.specs.Code.{IsPcOf, is_loop}
+use Rattle.geos_counters.specs.Idle.{calls_touching, MayNotPay, LeadsIdle, IsIdleWay, IsNeverPaid}
 use Rattle.geos_counters.specs.Touching.{NotesTouched}
 use Rattle.geos_potentials.specs.Demands.{IsKeptOver}
 use Rattle.geos_code.specs.Known.{row_of, known_at}
 use Rattle.geos_potentials.specs.Spreads.{ComeBehind, ComeFrom, ForgetsIt}
-use Rattle.control_graph.specs.Orders.{HasPlace}
-use Rattle.geos_potentials.specs.Stuck.{NotesIdle, LeadsNotedIdle, IsNotedIdleWay, GoesRoundIdle}
+use Rattle.geos_potentials.specs.Stuck.{NotesIdle, LeadsOnIdle}
 use Rattle.geos_counters.specs.Trails.{IsTrail, LeadsKeeping, keeps_counter}
 use Rattle.geos_code.specs.Edges.{LeadsTo}
 use Rattle.geos_potentials.proofs.Demand.{is-arc}
@@ -178,67 +176,46 @@ module _ (image : Parts) (r : ℕ) (known : List (Option Row)) (table : List (Li
       by_both true is e = touched-idle classes.touched touched pc k within (some-number (unit_at classes.touched pc k) is)
       by_both false is e = unset-idle classes.unset unset pc k within (some-number (unit_at classes.unset pc k) e)
 
-  -- Ways round
+-- Ways round
 
-  module _ (classes : Classes) (idle : NotesIdle image r classes) where
-    loop-takes : (row : Row) (i : Instr) (opcode : Opcode) (branch : Bool) → (branch && is_loop opcode) ≡ true
-        → taken_from (counting_of row table i opcode branch) ≡ Some i.a
-    loop-takes row i Loop true e = refl
-    loop-takes row i opcode false e = absurd (false≢true e)
-    loop-takes row i _ true e = absurd (false≢true e)
+-- one edge more
+idle-more : (image : Parts) (r : ℕ) (branches : List Bool) (from mid : ℕ) (branch : Bool) (to : ℕ) → IsIdleWay image r from branches mid
+    → LeadsIdle image r mid branch to → IsIdleWay image r from (branches ++ (branch ∷ [])) to
+idle-more image r [] from mid branch to way lead = (to, subst (λ (n : ℕ). LeadsIdle image r n branch to) (sym way) lead, refl)
+idle-more image r (first ∷ branches) from mid branch to way lead = (way.0, way.1, idle-more image r branches way.0 mid branch to way.2 lead)
 
-    module _ (order : Order) (piece : Piece) where
-      leads-idle : (pc to : ℕ) (branch : Bool) → IsPcOf image r pc → LeadsNotedIdle arcs classes order piece pc branch to
-          → LeadsIdle image r pc branch to
-      leads-idle pc to branch within lead =
-          let A = is-arc image r known table arcs are pc branch lead.arc within lead.read in
-          let leads = subst (LeadsTo image pc branch) lead.leads A.leads in
-          let same : A.leads.point ≡ leads.point = same_Some A.leads.point leads.point (sym A.leads.there ∙ leads.there) in
-          let i = A.leads.point.instr in record {
-            leads = leads;
-            stays = subst (IsPcOf image r) lead.leads A.stays;
-            idle = λ loops.
-                let here : (branch && is_loop i.opcode) ≡ true =
-                ap (λ (p : Point). branch && is_loop p.instr.opcode) same ∙ loops in
-                let takes : taken_from lead.arc.counting ≡ Some i.a = ap taken_from A.counting
-                ∙ loop-takes (row_of (known_at known pc)) i i.opcode branch here in
-                subst (λ (p : Point). MayNotPay image r p.instr.a pc) same (idle pc i.a within (lead.idle i.a takes));
-          }
+-- places that are led to one after another from a first one
+pub record ComesIdle (image : Parts) (r from to : ℕ) : Type 0 where
+  pub branches : List Bool
+  pub way : IsIdleWay image r from branches to
 
-      way-idle : (branches : List Bool) (from to : ℕ) → IsPcOf image r from → IsNotedIdleWay arcs classes order piece from branches to
-          → IsIdleWayBy image r (HasPlace order piece) from branches to
-      way-idle [] from to within way = way
-      way-idle (branch ∷ branches) from to within way =
-          let lead = leads-idle from way.0 branch within way.1 in
-          (way.0, way.1.here, lead, way-idle branches way.0 to lead.stays way.2)
-
-      pub round-never-paid : GoesRoundIdle image r arcs classes order piece → IsNeverPaidBy image r (HasPlace order piece)
-      round-never-paid G =
-          let lead = leads-idle G.from G.next G.branch G.begins G.first in record {
-            from = G.from;
-            begins = G.begins;
-            here = G.first.here;
-            branch = G.branch;
-            next = G.next;
-            first = lead;
-            branches = G.branches;
-            way = way-idle G.branches G.next G.from lead.stays G.way;
-          }
-
--- by some places control goes round in the routine
-
-way-by : (image : Parts) (r : ℕ) (place : ℕ → Type 0) (branches : List Bool) (from to : ℕ) → IsIdleWayBy image r place from branches to
-    → IsIdleWay image r from branches to
-way-by image r place [] from to way = way
-way-by image r place (branch ∷ branches) from to way = (way.0, way.2, way-by image r place branches way.0 to way.3)
-
-pub never-by : (image : Parts) (r : ℕ) (place : ℕ → Type 0) → IsNeverPaidBy image r place → IsNeverPaid image r
-never-by image r place N = record {
-  from = N.from;
-  begins = N.begins;
-  branch = N.branch;
-  next = N.next;
-  first = N.first;
-  branches = N.branches;
-  way = way-by image r place N.branches N.next N.from N.way;
+pub comes-more : (image : Parts) (r from mid to : ℕ) → ComesIdle image r from mid → LeadsOnIdle image r mid to → ComesIdle image r from to
+comes-more image r from mid to C lead = record {
+  branches = C.branches ++ (lead.1.0 ∷ []);
+  way = idle-more image r C.branches from mid lead.1.0 to C.way lead.1.1;
 }
+
+-- where control comes back, it goes round
+pub comes-back : (image : Parts) (r from mid : ℕ) → ComesIdle image r from mid → LeadsOnIdle image r mid from → IsNeverPaid image r
+comes-back image r from mid C lead = record {
+  from = mid;
+  begins = lead.0;
+  branch = lead.1.0;
+  next = from;
+  first = lead.1.1;
+  branches = C.branches;
+  way = C.way;
+}
+
+-- an edge that is found, where no LOOP may pay on it
+pub leads-idle : (image : Parts) (r pc : ℕ) (branch : Bool) (i : Instr) → IfSome (slice_get image.points pc) (λ point. i ≡ point.instr)
+    → ((branch && is_loop i.opcode) ≡ true → MayNotPay image r i.a pc) → (found : Option ℕ) → IfSome found (LeadsTo image pc branch)
+    → IfSome found (IsPcOf image r) → IfSome found (LeadsIdle image r pc branch)
+leads-idle image r pc branch i there may None leads stays = tt
+leads-idle image r pc branch i there may (Some to) leads stays =
+    let same : i ≡ leads.point.instr = if_some (λ point. i ≡ point.instr) (slice_get image.points pc) leads.point leads.there there in record {
+      leads = leads;
+      stays = stays;
+      idle = λ loops. subst (λ (x : Instr). MayNotPay image r x.a pc) same
+          (may (ap (λ (x : Instr). branch && is_loop x.opcode) same ∙ loops));
+    }

@@ -20,8 +20,7 @@ use Rattle.geos_code.specs.Code.{is_loop, IsPcOf, TargetAhead}
 use Rattle.geos_code.proofs.Ends.{code-at, leads-one}
 use Rattle.geos_code.specs.Edges.{LeadsTo}
 use Rattle.geos_potentials.specs.Constants.{AreLeastWith, asked_over, PaysSteps, ConstantsPay, row_known, coefficients_at, AreLeastIn, GoesBack, IsLoopAt, potential_in, IsAsked}
-use Rattle.geos_potentials.specs.Least.{SomePasses, steps_at, link_at, PaysLink, PayAll, PayEnds, AreLeast, IsLookedAt, AskNoMore, NoneOutside, ArePut}
-use Rattle.geos_potentials.specs.Halts.{NonePayWith}
+use Rattle.geos_potentials.specs.Least.{steps_at, link_at, PaysLink, PayAll, PayEnds, AreLeast, IsLookedAt, AskNoMore, NoneOutside, ArePut}
 use Rattle.geos_potentials.specs.Numbers.{Numbers, numbers_of, steps_of, coefficients_of}
 use Rattle.geos_potentials.proofs.Numbered.{numbers-set}
 use Rattle.geos_counters.specs.Steps.{call_steps, taken_at}
@@ -143,12 +142,6 @@ pub found-ways : (image : Parts) (r : ℕ) (known : List (Option Row)) (table : 
     → AreLeast image r links old next → AreLeastWith image r known pay (steps_at next)
 found-ways image r known table arcs noted pay links no_more outside old next least steps P pc within =
     ways-least image r known table pay steps P arcs noted links no_more outside old next least pc within
-
--- where one of them passes what a potential can say, so do all steps that pay
-pub none-pay : (image : Parts) (r : ℕ) (known : List (Option Row)) (pay : List (List ℕ)) (ways : List Way)
-    → AreLeastWith image r known pay (steps_at ways) → SomePasses image r (steps_at ways) → NonePayWith image r known pay
-none-pay image r known pay ways least passes steps P =
-    (passes.0, passes.1, (let less = least steps P passes.0 passes.1 in let past = passes.2 in omega (arith, less, past)))
 
 -- and numbers that are these are the least that pay
 pub found-least : (image : Parts) (r : ℕ) (known : List (Option Row)) (pay : List (List ℕ)) (next : List Way)

@@ -1,8 +1,6 @@
 -- Where ranks rise along edges, control does not come back by them.
-use Rattle.std.proofs.Common.{◌≡◌, ◌≤◌, ◌<◌, ◌⊎◌, ◌+◌, ℕ, Bool, true, false, List, [], ◌∷◌, length, Some, sym, ap, ◌∙◌, arith, inl, inr}
-use Rattle.std.specs.Prelude.{slice_index, slice_set}
-use Rattle.std.proofs.lemmas.Bool.{cases_eq, cases_lt}
-use Rattle.std.proofs.lemmas.List.{get_or-set_same, get_or-set_other, set_past}
+use Rattle.std.proofs.Common.{◌≡◌, ◌≤◌, ◌<◌, ◌+◌, ℕ, Bool, true, false, List, [], ◌∷◌, Some, sym, ap, ◌∙◌, arith, inl, inr}
+use Rattle.std.specs.Prelude.{slice_index}
 use Rattle.geos_image.specs.Parts.{Parts, start_of}
 use Rattle.geos_code.specs.Code.{IsPcOf}
 use Rattle.geos_counters.specs.Idle.{IsIdleWay, IsNeverPaid, MayNotPay}
@@ -47,28 +45,3 @@ module _ (image : Parts) (r : ℕ) (classes : Classes) (noted : AreIdleNoted ima
   idle-noted k pc few within (inr left) =
       trail-noted k few left.kept.branches (left.at + 1) pc left.kept.behind left.kept.trail
       ((noted.each left.at left.here).behind k few left.kept.behind left.touches)
-
--- each rank is what it was, or one of the pcs from one on up to another, where one more is set to such a pc
-pub one-ranked : (old now : List ℕ) (start end p rank : ℕ) → start ≤ rank → rank < end
-    → ((pc : ℕ) → (slice_index now pc ≡ slice_index old pc) ⊎ ((start ≤ slice_index now pc) × (slice_index now pc < end)))
-    → (pc : ℕ) → (slice_index (slice_set now p rank) pc ≡ slice_index old pc)
-    ⊎ ((start ≤ slice_index (slice_set now p rank) pc) × (slice_index (slice_set now p rank) pc < end))
-one-ranked old now start end p rank above below before pc = elim (cases_eq pc p) [
-  | inl same ↦ elim (cases_lt p (length now)) [
-    | inl inside ↦
-        let here : slice_index (slice_set now p rank) pc ≡ rank =
-        ap (slice_index (slice_set now p rank)) same ∙ get_or-set_same now p rank 0 inside in
-        inr (omega (arith, here, above), omega (arith, here, below))
-    | inr past ↦ stays (ap (λ (ranks : List ℕ). slice_index ranks pc) (set_past now p rank past)) (before pc)
-  ]
-  | inr ne ↦ stays (get_or-set_other now p pc rank 0 ne) (before pc)
-]
-  where
-    next : ℕ
-    next = slice_index (slice_set now p rank) pc
-
-    stays : next ≡ slice_index now pc
-        → (slice_index now pc ≡ slice_index old pc) ⊎ ((start ≤ slice_index now pc) × (slice_index now pc < end))
-        → (next ≡ slice_index old pc) ⊎ ((start ≤ next) × (next < end))
-    stays same (inl is) = inl (same ∙ is)
-    stays same (inr within) = inr (omega (arith, same, within.0), omega (arith, same, within.1))

@@ -43,10 +43,6 @@ IsArcIf image r known table pc branch (Some arc) = IsArc image r known table pc 
 abbrev pub AreArcs : Parts → ℕ → List (Option Row) → List (List Bool) → List (List (Option Arc)) → Type 0
 AreArcs image r known table arcs = (pc : ℕ) (branch : Bool) → IsPcOf image r pc → IsArcIf image r known table pc branch (arc_at arcs pc branch)
 
--- none of a pc outside of routine r is
-abbrev pub NoArcsOutside : Parts → ℕ → List (List (Option Arc)) → Type 0
-NoArcsOutside image r arcs = (pc : ℕ) (branch : Bool) → (IsPcOf image r pc → ⊥) → arc_at arcs pc branch ≡ None
-
 -- What an edge costs
 
 -- what a unit of a counter pays for at a place

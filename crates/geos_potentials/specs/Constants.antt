@@ -152,9 +152,15 @@ IsAsked image r known numbers pc branch None = (to : ℕ) → LeadsTo image pc b
 IsAsked image r known numbers pc branch (Some asked) = (to : ℕ) → (leads : LeadsTo image pc branch to) → IsPcOf image r to
     → asked ≡ asked_over image leads.point.instr (row_known known pc) branch (potential_in numbers to)
 
--- one stays there
-abbrev pub StaysIn : Parts → ℕ → ℕ → Bool → Type 0
-StaysIn image r pc branch = (to : ℕ) × LeadsTo image pc branch to × IsPcOf image r to
+-- the potential at a pc pays for one of its edges, if that stays in routine r, with the rows that are known
+abbrev pub IsPaidOver : Parts → ℕ → List (Option Row) → Numbers → ℕ → Bool → Type 0
+IsPaidOver image r known numbers pc branch = (to : ℕ) → (leads : LeadsTo image pc branch to) → IsPcOf image r to
+    → is_paid (asked_over image leads.point.instr (row_known known pc) branch (potential_in numbers to)) (potential_in numbers pc) ≡ true
+
+-- it pays for both, and for a return
+pub record IsPaidAt (image : Parts) (r : ℕ) (known : List (Option Row)) (numbers : Numbers) (pc : ℕ) : Type 0 where
+  pub edges : (branch : Bool) → IsPaidOver image r known numbers pc branch
+  pub returns : (point : Point) → slice_get image.points pc ≡ Some point → return_steps point.instr ≤ slice_index numbers.steps pc
 
 -- the numbers of routine r pay, with the rows that are known
 abbrev pub ArePaidIn : Parts → ℕ → List (Option Row) → Numbers → Type 0

@@ -1,5 +1,5 @@
 -- The longest ways that are known, and numbers of steps that pay for each edge.
-use Rattle.std.specs.Prelude.{◌≡◌, ◌≤◌, ◌<◌, ◌+◌, ◌⊎◌, ℕ, Bool, true, false, if◌then◌else◌, List, [], Option, Some, None, slice_get, slice_index, slice_index_or}
+use Rattle.std.specs.Prelude.{◌≡◌, ◌≤◌, ◌+◌, ◌⊎◌, ℕ, Bool, true, false, if◌then◌else◌, List, [], Option, Some, None, slice_get, slice_index, slice_index_or}
 use Rattle.geos_image.specs.Parts.{Parts}
 use Rattle.geos_image.specs.declared.point.Point.{Point}
 use Rattle.control_graph.specs.Arcs.{arc_at, taken_from}
@@ -10,7 +10,6 @@ use Rattle.geos_potentials.specs.Numbers.{Numbers}
 use Rattle.control_graph.specs.declared.arcs.Arc.{Arc}
 use Rattle.control_graph.specs.declared.jumps.Jump.{Jump}
 use Rattle.control_graph.specs.declared.jumps.Jump.TheVariants.{Plain, Free}
-use Rattle.geos_potentials.specs.declared.lengths.Lengths.{Lengths}
 use Rattle.geos_potentials.specs.declared.lengths.Link.{Link}
 use Rattle.geos_potentials.specs.declared.lengths.Way.{Way}
 
@@ -22,23 +21,9 @@ no_way = record { steps = 0; first = None; passed = 0 }
 abbrev pub steps_at : List Way → ℕ → ℕ
 steps_at ways pc = (slice_index_or ways pc no_way).steps
 
--- which edge made it so long, if that is known; true for the one to the target
-abbrev pub first_at : List Way → ℕ → Option Bool
-first_at ways pc = (slice_index_or ways pc no_way).first
-
 -- the edge of a pc that is looked at
 abbrev pub link_at : List (List (Option Link)) → ℕ → Bool → Option Link
 link_at links pc branch = slice_index_or (slice_index_or links pc []) (if branch then 1 else 0) None
-
--- no edge is looked at, and no way is known
-pub record NoLengths (lengths : Lengths) : Type 0 where
-  pub links : (pc : ℕ) (branch : Bool) → link_at lengths.links pc branch ≡ None
-  pub steps : (pc : ℕ) → steps_at lengths.ways pc ≡ 0
-  pub first : (pc : ℕ) → first_at lengths.ways pc ≡ None
-
--- it is known that the way from a pc begins with this edge
-abbrev pub BeginsWith : List (List (Option Link)) → List Way → ℕ → Link → Type 0
-BeginsWith links ways pc link = (branch : Bool) × (first_at ways pc ≡ Some branch) × (link_at links pc branch ≡ Some link)
 
 -- so many steps at each pc pay for an edge from this one, if there is one, with what a unit pays of it
 abbrev pub PaysLink : (ℕ → ℕ) → ℕ → Option Link → Type 0
@@ -70,10 +55,6 @@ AreEnds image r ways next = (want : ℕ → ℕ) → PayEnds image r ways want �
 -- that is looked at
 abbrev pub AreLeast : Parts → ℕ → List (List (Option Link)) → List Way → List Way → Type 0
 AreLeast image r links ways next = (want : ℕ → ℕ) → PayAll links want → PayEnds image r ways want → AtMost next want
-
--- at some place of routine r so many steps are past what a potential can say
-abbrev pub SomePasses : Parts → ℕ → (ℕ → ℕ) → Type 0
-SomePasses image r steps = (pc : ℕ) × IsPcOf image r pc × (4294967295 < steps pc)
 
 -- What is looked at
 
@@ -121,27 +102,3 @@ NoneOutside image r links = (pc : ℕ) (branch : Bool) → (IsPcOf image r pc �
 abbrev pub ArePut : Parts → ℕ → List (List ℕ) → List Way → Numbers → Type 0
 ArePut image r pay ways numbers = (pc : ℕ) → IsPcOf image r pc → (slice_index numbers.steps pc ≡ steps_at ways pc)
     × (slice_index_or numbers.coefficients pc [] ≡ slice_index_or pay pc [])
-
--- What covers edges
-
--- a way of so many steps covers an edge that is looked at, if there is one, with what a unit pays of it; or both are past what 64 bits hold
-abbrev pub Covers : List Way → ℕ → Option Link → Type 0
-Covers ways n None = Unit {0}
-Covers ways n (Some link) = (steps_at ways link.to + link.costs ≤ n + link.paid) ⊎ (18446744073709551615 ≤ n + link.paid)
-
--- the ways from places from one on up to another cover each edge from there that is looked at
-abbrev pub AreCovered : List (List (Option Link)) → List Way → ℕ → ℕ → Type 0
-AreCovered links ways from end = (pc : ℕ) (branch : Bool) → from ≤ pc → pc < end → Covers ways (steps_at ways pc) (link_at links pc branch)
-
--- those ways take fewer than 2 ^ 63 steps, so that sums of them fit 64 bits
-abbrev pub AreShort : List Way → ℕ → ℕ → Type 0
-AreShort ways from end = (pc : ℕ) → from ≤ pc → pc < end → steps_at ways pc < 9223372036854775808
-
--- no way takes fewer steps next
-abbrev pub AreLonger : List Way → List Way → Type 0
-AreLonger old next = (pc : ℕ) → steps_at old pc ≤ steps_at next pc
-
--- the ways of routine r take as much as its returns do, at least
-abbrev pub CoverReturns : Parts → ℕ → List Way → Type 0
-CoverReturns image r ways = (pc : ℕ) (point : Point) → IsPcOf image r pc → slice_get image.points pc ≡ Some point
-    → return_steps point.instr ≤ steps_at ways pc

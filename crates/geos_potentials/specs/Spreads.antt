@@ -2,7 +2,6 @@
 use Rattle.std.specs.Prelude.{◌≡◌, ◌≤◌, ◌<◌, ℕ, Bool, true, false, List, Option, Some}
 use Rattle.control_graph.specs.declared.arcs.Arc.{Arc}
 use Rattle.control_graph.specs.declared.arcs.Counting.{Counting}
-use Rattle.control_graph.specs.declared.arcs.Counting.TheVariants.{Sets}
 use Rattle.control_graph.specs.Arcs.{arc_at, forgets}
 use Rattle.geos_potentials.specs.Arcs.{unit_at}
 use Rattle.geos_potentials.specs.Demands.{IsKeptOver}
@@ -46,20 +45,6 @@ ComeBehind arcs low place does spread = (pc k : ℕ) → low ≤ pc → 0 < unit
 abbrev pub ForgetsIt : Does
 ForgetsIt k n counting = forgets counting k ≡ true
 
--- it is set to a number
-abbrev pub SetsTo : Does
-SetsTo k n counting = counting ≡ Sets k n
-
--- it is set to more than 0
-abbrev pub SetsSome : Does
-SetsSome k n counting = (most : ℕ) × (counting ≡ Sets k most) × (0 < most)
-
 -- wherever it is not 0, at pcs from one on, a counter may be as it was there
 abbrev pub ComeFrom : List (List (Option Arc)) → ℕ → List (List ℕ) → Type 0
 ComeFrom arcs low spread = (pc k : ℕ) → low ≤ pc → 0 < unit_at spread pc k → (branches : List Bool) × IsKeptOver arcs k low branches pc
-
--- What is noted at least
-
--- each of the four counters has a number at a pc that is not 0
-abbrev pub AllStandAt : ℕ → List (List ℕ) → Type 0
-AllStandAt pc spread = (k : ℕ) → k < 4 → 0 < unit_at spread pc k

@@ -1,8 +1,8 @@
 //! What the instruction at a pc asks of the potential there.
 
-ghost use Rattle.std.specs.Prelude.{◌≡◌, ◌<◌, ◌≤◌, max, IfSome};
+ghost use Rattle.std.specs.Prelude.{◌≡◌, ◌<◌, ◌≤◌, max};
 ghost use Rattle.geos_verify.specs.Lists.{zip2};
-ghost use Rattle.geos_potentials.specs.Constants.{IsAsked, StaysIn};
+ghost use Rattle.geos_potentials.specs.Constants.{IsAsked};
 ghost use Rattle.geos_potentials.specs.Numbers.{numbers_of};
 ghost use Rattle.geos_counters.specs.Counters.{zeros};
 ghost use Rattle.geos_potentials.specs.Count.{asked_steps, asked_coefficients, return_steps, AsksSteps, IsFound};
@@ -27,7 +27,6 @@ pub(crate) fn asked_over(
     requires below { pc < body.now.end }
     ensures steps { AsksSteps body.now.image.now body.now.r body.now.end pc branch (numbers_of potentials.now) result }
     ensures asks { IsAsked body.now.image.now body.now.r known.now (numbers_of potentials.now) pc branch result }
-    ensures there { IfSome result (λ _. StaysIn body.now.image.now body.now.r pc branch) }
 {
     let edge = edge_in(body, pc, branch)?;
     let i = body.image.instr(pc);

@@ -1,18 +1,7 @@
 //! Which LOOPs are to pay for ways round among the places of a component.
 
-ghost use Rattle.std.specs.Prelude.{◌≡◌, ◌<◌, ◌≤◌, ◌==◌, ◌+◌, ◌⊎◌, ℕ, true, false, not, min, None, Some, IfSome, IfNone, MatchOption, slice_index_or};
-ghost use Rattle.control_graph.specs.Arcs.{arc_at, taken_from};
-ghost use Rattle.geos_potentials.specs.Arcs.{unit_at};
-ghost use Rattle.geos_potentials.specs.Least.{is_free};
-ghost use Rattle.geos_potentials.specs.Making.{may_pay_in, NoneMayPayIn, ArePriced, ArePrices, IsChosen, IsSomeChosen};
-ghost use Rattle.control_graph.specs.Ways.{TakesWithin};
-ghost use Rattle.geos_potentials.specs.Pieces.{NoneMayPay, SumsUp, set_within};
-ghost use Rattle.geos_potentials.specs.Ranks.{noted_idle};
-ghost use Rattle.geos_potentials.specs.Untouched.{untouched};
-ghost use Rattle.geos_potentials.specs.Within.{HoldsAt};
-ghost use Rattle.control_graph.specs.declared.arcs.Arc.{Arc};
+ghost use Rattle.std.specs.Prelude.{◌<◌, ◌==◌, true, false, not, min, None, Some};
 ghost use Rattle.geos_potentials.specs.declared.choice.Tier.TheVariants.{Clean, Tight, Unset};
-ghost use Rattle.control_graph.specs.declared.jumps.Jump.TheVariants.{Plain};
 
 use crate::classes::Classes;
 use control_graph::{Graph, Jumps, Order, Piece, lead_within};
@@ -49,10 +38,6 @@ pub(crate) struct Chosen {
 /// The counter of the LOOP at a place, whose way to its target stays in a piece, is not left out and pays in no nest.
 fn counter_at(graph: &Graph, jumps: &Jumps, order: &Order, piece: &Piece, pc: u16) -> Option<u8>
     requires { pc < 4096 }
-    ensures all { (k : ℕ) → TakesWithin graph.now.arcs jumps.now order.now piece.now pc k → result ≡ Some k }
-    ensures within { (k : ℕ) → result ≡ Some k → TakesWithin graph.now.arcs jumps.now order.now piece.now pc k }
-    ensures takes { (k : ℕ) → result ≡ Some k → (arc : Arc) × (arc_at graph.now.arcs pc true ≡ Some arc) × (taken_from arc.counting ≡ Some k) }
-    ensures plain { (k : ℕ) → result ≡ Some k → is_free (slice_index_or jumps.now pc Plain) ≡ false }
 {
     let counter = graph.arc(pc, true)?.takes()?;
     lead_within(graph, jumps, order, piece, pc, true)?;
@@ -63,8 +48,6 @@ impl Tier {
     /// Whether the LOOP of a counter at a place of a component may pay, where it is noted from where its counters are set.
     fn may_pay(self, classes: &Classes, pc: u16, counter: u8) -> bool
         requires { pc < 4096 }
-        ensures touched { result ≡ true → (unit_at classes.now.touched pc counter == 0) ≡ true }
-        ensures tier { result ≡ may_pay_in self classes.now pc counter }
     {
         if classes.is_touched(pc, counter) {
             return false;
@@ -89,13 +72,6 @@ impl Chosen {
         pc: u16,
     ) -> bool
         requires { pc < 4096 }
-        ensures untouched { result ≡ true → HoldsAt graph.now.arcs (untouched classes.now.touched) pc }
-        ensures plain { result ≡ true → is_free (slice_index_or jumps.now pc Plain) ≡ false }
-        ensures within { result ≡ true → TakesWithin graph.now.arcs jumps.now order.now piece.now pc self.now.choice.counter }
-        ensures may { result ≡ true → may_pay_in self.now.choice.tier classes.now pc self.now.choice.counter ≡ true }
-        ensures price { result ≡ true → self.now.all ≡ false → (self.now.choice.tier ≡ Tight → ⊥)
-            → unit_at classes.now.prices pc self.now.choice.counter ≡ self.now.choice.price }
-        ensures all { IsChosen graph.now.arcs jumps.now order.now classes.now piece.now self.now.choice pc → result ≡ true }
     {
         let Choice {
             counter,
@@ -114,9 +90,7 @@ impl Chosen {
 }
 
 /// The less of two prices, where there may be no first one.
-fn least(a: Option<u32>, b: u32) -> Option<u32>
-    ensures { MatchOption a (result ≡ Some b) (λ other. result ≡ Some (min other b)) }
-{
+fn least(a: Option<u32>, b: u32) -> Option<u32> {
     match a {
         Some(a) => Some(a.min(b)),
         None => Some(b),
@@ -135,11 +109,6 @@ fn add_price(
     prices: &mut [Option<u32>; 4],
 )
     requires { x < 4096 }
-    ensures all { ArePriced graph.now.arcs jumps.now order.now classes.now piece.now tier x prices.old
-        → ArePriced graph.now.arcs jumps.now order.now classes.now piece.now tier (x + 1) prices.new }
-    ensures only { piece.now.begin ≤ x → x < piece.now.end
-        → ArePrices graph.now.arcs jumps.now order.now classes.now piece.now tier prices.old
-        → ArePrices graph.now.arcs jumps.now order.now classes.now piece.now tier prices.new }
 {
     let pc = order.place(x);
     let Some(counter) = counter_at(graph, jumps, order, piece, pc) else {
@@ -163,10 +132,7 @@ fn prices(
     classes: &Classes,
     piece: &Piece,
     tier: Tier,
-) -> [Option<u32>; 4]
-    ensures all { ArePriced graph.now.arcs jumps.now order.now classes.now piece.now tier piece.now.end result }
-    ensures only { ArePrices graph.now.arcs jumps.now order.now classes.now piece.now tier result }
-{
+) -> [Option<u32>; 4] {
     let mut prices = [None; 4];
     for x in piece.begin..piece.end {
         add_price(graph, jumps, order, classes, piece, tier, x, &mut prices);
@@ -177,7 +143,6 @@ fn prices(
 /// How much the edge of a place to the next instruction sets a counter to, if it stays in a component; else 0.
 fn set_at(graph: &Graph, order: &Order, piece: &Piece, counter: u8, pc: u16) -> u16
     requires { pc < 4096 }
-    ensures { result ≡ set_within order.now piece.now counter (arc_at graph.now.arcs pc false) }
 {
     let Some(arc) = graph.arc(pc, false) else {
         return 0;
@@ -192,11 +157,7 @@ fn set_at(graph: &Graph, order: &Order, piece: &Piece, counter: u8, pc: u16) -> 
 }
 
 /// How much a counter is set to in all in a component.
-fn sum_set(graph: &Graph, order: &Order, piece: &Piece, counter: u8) -> u32
-    ensures { SumsUp graph.now.arcs order.now piece.now counter result }
-{
-    // For what its law says.
-    order.places.lengths();
+fn sum_set(graph: &Graph, order: &Order, piece: &Piece, counter: u8) -> u32 {
     let mut sum: u32 = 0;
     for x in piece.begin..piece.end {
         let set = set_at(graph, order, piece, counter, order.place(x));
@@ -206,12 +167,7 @@ fn sum_set(graph: &Graph, order: &Order, piece: &Piece, counter: u8) -> u32
 }
 
 /// The cheaper choice; the first one where both are as cheap.
-fn cheaper(found: Option<Choice>, choice: Choice) -> Choice
-    ensures either { (result ≡ choice) ⊎ (found ≡ Some result) }
-    ensures cheap { result.price ≤ choice.price }
-    ensures least { IfSome found (λ other. result.price ≤ other.price) }
-    ensures first { IfSome found (λ other. other.price ≤ choice.price → result ≡ other) }
-{
+fn cheaper(found: Option<Choice>, choice: Choice) -> Choice {
     match found {
         Some(other) if other.price <= choice.price => other,
         _ => choice,
@@ -219,11 +175,7 @@ fn cheaper(found: Option<Choice>, choice: Choice) -> Choice
 }
 
 /// The counter of the least price, of which there is one.
-fn cheapest(prices: &[Option<u32>; 4], tier: Tier) -> Option<Choice>
-    ensures none { IfNone result ((k : ℕ) → k < 4 → slice_index_or prices.now k None ≡ None) }
-    ensures some { IfSome result (λ choice. (choice.tier ≡ tier) × (slice_index_or prices.now choice.counter None ≡ Some choice.price)) }
-    ensures least { IfSome result (λ choice. (k price : ℕ) → k < 4 → slice_index_or prices.now k None ≡ Some price → choice.price ≤ price) }
-{
+fn cheapest(prices: &[Option<u32>; 4], tier: Tier) -> Option<Choice> {
     let mut found: Option<Choice> = None;
     for counter in 0..4u8 {
         if let Some(price) = prices[usize::from(counter)] {
@@ -245,11 +197,7 @@ fn set_price(
     piece: &Piece,
     counter: u8,
     price: Option<u32>,
-) -> Option<u32>
-    ensures none { result ≡ None → price ≡ None }
-    ensures only { price ≡ None → result ≡ None }
-    ensures sum { IfSome result (SumsUp graph.now.arcs order.now piece.now counter) }
-{
+) -> Option<u32> {
     match price {
         Some(_) => Some(sum_set(graph, order, piece, counter)),
         None => None,
@@ -262,11 +210,7 @@ fn set_prices(
     order: &Order,
     piece: &Piece,
     prices: &[Option<u32>; 4],
-) -> [Option<u32>; 4]
-    ensures none { (k : ℕ) → slice_index_or result k None ≡ None → slice_index_or prices.now k None ≡ None }
-    ensures only { (k : ℕ) → slice_index_or prices.now k None ≡ None → slice_index_or result k None ≡ None }
-    ensures sums { (k : ℕ) → IfSome (slice_index_or result k None) (SumsUp graph.now.arcs order.now piece.now k) }
-{
+) -> [Option<u32>; 4] {
     let [p0, p1, p2, p3] = *prices;
     [
         set_price(graph, order, piece, 0, p0),
@@ -284,14 +228,7 @@ pub(crate) fn choose(
     order: &Order,
     classes: &Classes,
     piece: &Piece,
-) -> Option<Choice>
-    ensures none { IfNone result (NoneMayPay graph.now.arcs jumps.now order.now classes.now piece.now) }
-    ensures some { IfSome result (IsSomeChosen graph.now.arcs jumps.now order.now classes.now piece.now) }
-    ensures tight { IfSome result (λ choice. choice.tier ≡ Tight
-        → NoneMayPayIn Clean graph.now.arcs jumps.now order.now classes.now piece.now) }
-    ensures unset { IfSome result (λ choice. choice.tier ≡ Unset
-        → NoneMayPay graph.now.arcs jumps.now order.now classes.now piece.now) }
-{
+) -> Option<Choice> {
     let clean = prices(graph, jumps, order, classes, piece, Tier::Clean);
     if let Some(choice) = cheapest(&clean, Tier::Clean) {
         return Some(choice);

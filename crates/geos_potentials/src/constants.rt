@@ -1,19 +1,12 @@
 //! Constants: the longest ways from each place, where units of counters pay for so much.
 
-ghost use Rattle.std.specs.Prelude.{◌≡◌, ◌≢◌, ◌<◌, ◌≤◌, ◌+◌, ◌-◌, ◌*◌, ◌&&◌, ℕ, true, false, IfErr, IfOk, slice_index_or};
+ghost use Rattle.std.specs.Prelude.{◌≡◌, ◌≢◌, ◌<◌, ◌+◌, ◌-◌, ◌&&◌, ℕ, true, false, slice_index_or};
 ghost use Rattle.geos_image.specs.Parts.{start_of};
 ghost use Rattle.geos_potentials.specs.Arcs.{unit_at};
-ghost use Rattle.geos_potentials.specs.Carried.{AreCarried, AreHeld, NoneHeld};
 ghost use Rattle.geos_potentials.specs.Count.{StaysFrom};
 ghost use Rattle.geos_potentials.specs.Demands.{HaveGrown, StayWanted};
-ghost use Rattle.geos_potentials.specs.Lacks.{AsksPast, FreePasses};
-ghost use Rattle.geos_potentials.specs.Least.{AreEnds, AreLeast, StayAtMost, is_free, IsLookedAt, AreLookedAt, StayAtLoops, NoneOutside, ArePut, SomePasses, steps_at, AreCovered, AreShort, AreLonger, CoverReturns};
-ghost use Rattle.control_graph.specs.Led.{AreLed};
-ghost use Rattle.geos_potentials.specs.Looks.{RisesBy};
+ghost use Rattle.geos_potentials.specs.Least.{AreEnds, AreLeast, StayAtMost, is_free, IsLookedAt, AreLookedAt, StayAtLoops, NoneOutside, ArePut};
 ghost use Rattle.geos_potentials.specs.Numbers.{numbers_of};
-ghost use Rattle.geos_potentials.specs.Paid.{LoopPays, FreePay, AreSayable, HaveFour};
-ghost use Rattle.geos_potentials.specs.Waits.{HaveRisen};
-ghost use Rattle.geos_potentials.specs.Within.{StayWithinAt, StayWithinLoops};
 ghost use Rattle.control_graph.specs.declared.jumps.Jump.TheVariants.{Plain};
 ghost use Rattle.geos_potentials.specs.declared.units.Lack.TheVariants.{Looks, Passes};
 
@@ -57,7 +50,6 @@ fn begin(body: &Body, graph: &Graph, splitting: &Splitting, units: &mut Units)
     ensures ends { AreEnds body.now.image.now body.now.r units.old.lengths.ways units.new.lengths.ways }
     ensures outside { NoneOutside body.now.image.now body.now.r units.new.lengths.links }
     ensures looked { AreLookedAt body.now.image.now body.now.r graph.now.arcs splitting.now.jumps units.new.pay units.new.lengths.links }
-    ensures returns { CoverReturns body.now.image.now body.now.r units.new.lengths.ways }
     ensures pay { units.new.pay ≡ units.old.pay }
 {
     units.lengths.clear_links();
@@ -74,10 +66,7 @@ fn begin(body: &Body, graph: &Graph, splitting: &Splitting, units: &mut Units)
 const LONG: u64 = 1 << 63;
 
 /// Whether no way from the pcs of a piece is so long.
-fn are_short(all: &Piece, units: &Units) -> bool
-    ensures short { result ≡ true → AreShort units.now.lengths.ways all.now.begin all.now.end }
-    ensures some { result ≡ false → all.now.begin < all.now.end }
-{
+fn are_short(all: &Piece, units: &Units) -> bool {
     for pc in all.begin..all.end {
         if LONG <= units.lengths.steps(pc) {
             return false;
@@ -90,11 +79,6 @@ fn are_short(all: &Piece, units: &Units) -> bool
 fn are_longest(order: &Order, all: &Piece, units: &mut Units) -> bool
     ensures links { units.new.lengths.links ≡ units.old.lengths.links }
     ensures below { StayAtMost units.old.lengths.links units.old.lengths.ways units.new.lengths.ways }
-    ensures longer { AreLonger units.old.lengths.ways units.new.lengths.ways }
-    ensures covered { result ≡ true → AreCovered units.new.lengths.links units.new.lengths.ways all.now.begin all.now.end }
-    ensures short { result ≡ true → AreShort units.new.lengths.ways all.now.begin all.now.end }
-    ensures some { result ≡ false → all.now.begin < all.now.end }
-    ensures counts { RisesBy units.old.looked.count (2 * (all.now.end - all.now.begin)) units.new.looked.count }
     ensures pay { units.new.pay ≡ units.old.pay }
 {
     if units.sweep_all(order, all) {
@@ -107,11 +91,7 @@ fn are_longest(order: &Order, all: &Piece, units: &mut Units) -> bool
 fn lengthen(order: &Order, all: &Piece, units: &mut Units) -> Result<(), Lack>
     ensures links { units.new.lengths.links ≡ units.old.lengths.links }
     ensures below { StayAtMost units.old.lengths.links units.old.lengths.ways units.new.lengths.ways }
-    ensures longer { AreLonger units.old.lengths.ways units.new.lengths.ways }
-    ensures covered { IfOk result (λ _. AreCovered units.new.lengths.links units.new.lengths.ways all.now.begin all.now.end) }
-    ensures short { IfOk result (λ _. AreShort units.new.lengths.ways all.now.begin all.now.end) }
     ensures pay { units.new.pay ≡ units.old.pay }
-    ensures looks { IfErr result (λ lack. (lack ≡ Looks) × (LOOKS ≤ units.new.looked.count)) }
 {
     // A way that passes no place twice is found by as many sweeps as it has edges, and in the last one nothing is longer. That there is none
     // longer where nests are paid for is not proved: so the looks are the bound.
@@ -137,11 +117,7 @@ pub(crate) fn find_constants(
     ensures least { AreLeast body.now.image.now body.now.r units.new.lengths.links units.old.lengths.ways units.new.lengths.ways }
     ensures outside { NoneOutside body.now.image.now body.now.r units.new.lengths.links }
     ensures looked { AreLookedAt body.now.image.now body.now.r graph.now.arcs splitting.now.jumps units.new.pay units.new.lengths.links }
-    ensures covered { IfOk result (λ _. AreCovered units.new.lengths.links units.new.lengths.ways body.now.start body.now.end) }
-    ensures short { IfOk result (λ _. AreShort units.new.lengths.ways body.now.start body.now.end) }
-    ensures returns { CoverReturns body.now.image.now body.now.r units.new.lengths.ways }
     ensures pay { units.new.pay ≡ units.old.pay }
-    ensures looks { IfErr result (λ lack. (lack ≡ Looks) × (LOOKS ≤ units.new.looked.count)) }
 {
     begin(body, graph, splitting, units);
     let all = Piece {
@@ -154,14 +130,10 @@ pub(crate) fn find_constants(
 /// Sets what a unit has to pay for at the LOOP at a pc, whose counter is 0.
 fn free_loop(graph: &Graph, units: &mut Units, pc: u16) -> Result<(), Lack>
     requires { pc < 4096 }
-    ensures passes { IfErr result (λ lack. (lack ≡ Passes) × AsksPast graph.now.arcs units.new.lengths.ways pc) }
     ensures lengths { units.new.lengths ≡ units.old.lengths }
     ensures wanted { StayWanted graph.now.arcs units.old.pay units.new.pay }
     ensures more { HaveGrown units.old.pay units.new.pay }
     ensures others { (at k : ℕ) → at ≢ pc → unit_at units.new.pay at k ≡ unit_at units.old.pay at k }
-    ensures within { StayWithinAt graph.now.arcs pc units.old.pay units.new.pay }
-    ensures risen { HaveRisen units.old.pay units.new.pay units.old.waits units.new.waits }
-    ensures paid { IfOk result (λ _. LoopPays graph.now.arcs units.new.pay units.new.lengths.ways pc) }
 {
     let Some(arc) = graph.arc(pc, true) else {
         return Ok(());
@@ -179,15 +151,10 @@ fn free_loop(graph: &Graph, units: &mut Units, pc: u16) -> Result<(), Lack>
 /// The same, if the LOOP at the pc is left out.
 fn free_at(graph: &Graph, splitting: &Splitting, units: &mut Units, pc: u16) -> Result<(), Lack>
     requires { pc < 4096 }
-    ensures passes { IfErr result (λ lack. (lack ≡ Passes) × FreePasses graph.now.arcs splitting.now.jumps units.new.lengths.ways) }
     ensures lengths { units.new.lengths ≡ units.old.lengths }
     ensures wanted { StayWanted graph.now.arcs units.old.pay units.new.pay }
     ensures more { HaveGrown units.old.pay units.new.pay }
     ensures stay { StayAtLoops graph.now.arcs splitting.now.jumps units.old.pay units.new.pay }
-    ensures within { StayWithinLoops graph.now.arcs splitting.now.jumps is_free units.old.pay units.new.pay }
-    ensures risen { HaveRisen units.old.pay units.new.pay units.old.waits units.new.waits }
-    ensures paid { IfOk result (λ _. is_free (slice_index_or splitting.now.jumps pc Plain) ≡ true
-        → LoopPays graph.now.arcs units.new.pay units.new.lengths.ways pc) }
 {
     if is_left_out(splitting, pc, true) {
         free_loop(graph, units, pc)
@@ -204,16 +171,10 @@ pub(crate) fn free_loops(
     splitting: &Splitting,
     units: &mut Units,
 ) -> Result<(), Lack>
-    ensures passes { IfErr result (λ lack. (lack ≡ Passes) × FreePasses graph.now.arcs splitting.now.jumps units.new.lengths.ways) }
     ensures lengths { units.new.lengths ≡ units.old.lengths }
     ensures wanted { StayWanted graph.now.arcs units.old.pay units.new.pay }
     ensures more { HaveGrown units.old.pay units.new.pay }
     ensures stay { StayAtLoops graph.now.arcs splitting.now.jumps units.old.pay units.new.pay }
-    ensures within { StayWithinLoops graph.now.arcs splitting.now.jumps is_free units.old.pay units.new.pay }
-    ensures held { IfOk result (λ _. AreLed graph.now → AreCarried graph.now.arcs NoneHeld units.old.pay
-        → AreCarried graph.now.arcs (AreHeld graph.now.arcs splitting.now.jumps) units.new.pay) }
-    ensures paid { IfOk result (λ _.
-        FreePay graph.now.arcs splitting.now.jumps units.new.pay units.new.lengths.ways body.now.start body.now.end) }
 {
     for pc in body.start..body.end {
         free_at(graph, splitting, units, pc)?;
@@ -222,21 +183,9 @@ pub(crate) fn free_loops(
     Ok(())
 }
 
-/// A law: there are four units at each place of a routine. It takes a look at each.
-fn have_four(body: &Body, units: &Units)
-    ensures { HaveFour body.now.image.now body.now.r units.now.pay }
-{
-    for pc in body.start..body.end {
-        let _units = units.pay.at(pc);
-    }
-}
-
 /// The potentials of a routine are what was found; `false` where a constant is past what a potential can say.
 pub(crate) fn put_potentials(body: &Body, units: &Units, potentials: &mut Potentials) -> bool
     ensures put { result ≡ true → ArePut body.now.image.now body.now.r units.now.pay units.now.lengths.ways (numbers_of potentials.new) }
-    ensures says { result ≡ true → AreSayable body.now.image.now body.now.r units.now.lengths.ways }
-    ensures four { HaveFour body.now.image.now body.now.r units.now.pay }
-    ensures passes { result ≡ false → SomePasses body.now.image.now body.now.r (steps_at units.now.lengths.ways) }
     ensures stays { StaysFrom (start_of body.now.image.now.routines (body.now.r + 1)) (numbers_of potentials.old) (numbers_of potentials.new) }
 {
     // For what its law says.
@@ -244,7 +193,6 @@ pub(crate) fn put_potentials(body: &Body, units: &Units, potentials: &mut Potent
     for pc in body.start..body.end {
         let length = units.lengths.steps(pc);
         if u64::from(u32::MAX) < length {
-            have_four(body, units);
             return false;
         }
         let potential = Potential {

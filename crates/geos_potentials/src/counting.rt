@@ -1,12 +1,9 @@
 //! What the edges of an instruction cost, and what they do to counters.
 
-ghost use Rattle.std.specs.Prelude.{◌≡◌, ◌<◌, ℕ, Some, true, false, IfSome};
+ghost use Rattle.std.specs.Prelude.{◌≡◌, ◌<◌, Some, true, false};
 ghost use Rattle.geos_image.specs.Fields.{FieldsFit};
-ghost use Rattle.geos_potentials.specs.Arcs.{counting_of, IsArcIf, AreArcs, NoArcsOutside};
-ghost use Rattle.control_graph.specs.Arcs.{taken_from};
+ghost use Rattle.geos_potentials.specs.Arcs.{counting_of, IsArcIf, AreArcs};
 ghost use Rattle.geos_code.specs.Known.{row_of, known_at};
-ghost use Rattle.geos_potentials.specs.Making.{AreInside};
-ghost use Rattle.control_graph.specs.Led.{AreLed};
 
 use control_graph::{Arc, Counting, Graph};
 use geos_code::{Body, Known, bound_of, edge_in, row_of};
@@ -53,8 +50,7 @@ pub(crate) fn arc_of(
     branch: bool,
 ) -> Option<Arc>
     requires { pc < body.now.end }
-    ensures arc { IsArcIf body.now.image.now body.now.r known.now touched.now pc branch result }
-    ensures takes { IfSome result (λ arc. (k : ℕ) → taken_from arc.counting ≡ Some k → (branch ≡ true) × (k < 4)) }
+    ensures { IsArcIf body.now.image.now body.now.r known.now touched.now pc branch result }
 {
     let edge = edge_in(body, pc, branch)?;
     Some(Arc {
@@ -66,10 +62,7 @@ pub(crate) fn arc_of(
 
 /// Notes the edges of a routine, in the place of those of another.
 pub(crate) fn note_edges(graph: &mut Graph, body: &Body, known: &Known, touched: &Touched)
-    ensures arcs { AreArcs body.now.image.now body.now.r known.now touched.now graph.new.arcs }
-    ensures outside { NoArcsOutside body.now.image.now body.now.r graph.new.arcs }
-    ensures inside { AreInside graph.new.arcs body.now.start body.now.end }
-    ensures led { AreLed graph.new }
+    ensures { AreArcs body.now.image.now body.now.r known.now touched.now graph.new.arcs }
 {
     graph.clear_from(body.start);
     for pc in body.start..body.end {

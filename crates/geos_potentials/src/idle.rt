@@ -5,6 +5,7 @@ ghost use Rattle.geos_counters.specs.Touching.{KnowsTouched, NotesTouched, Notes
 ghost use Rattle.geos_counters.specs.Idle.{calls_touching, LeadsIdle};
 ghost use Rattle.geos_code.specs.Code.{IsPcOf};
 ghost use Rattle.geos_potentials.specs.Ranks.{noted_idle, GoesOn, IsNotedBehind, AreNotedFrom, AreIdleNoted};
+ghost use Rattle.geos_potentials.specs.Stuck.{NotesIdle};
 ghost use Rattle.geos_counters.specs.Trails.{keeps_counter};
 ghost use Rattle.geos_code.specs.Edges.{LeadsTo};
 ghost use Rattle.geos_image.specs.Parts.{Parts};
@@ -152,13 +153,22 @@ pub(crate) fn are_noted(body: &Body, touching: &Touching, classes: &Classes) -> 
 pub(crate) fn lead_idle(body: &Body, classes: &Classes, pc: u16, branch: bool) -> Option<u16>
     requires above { body.now.start ≤ pc }
     requires below { pc < body.now.end }
+    ensures only { NotesIdle body.now.image.now body.now.r classes.now → IfSome result (LeadsIdle body.now.image.now body.now.r pc branch) }
     ensures all { (to : ℕ) → AreIdleNoted body.now.image.now body.now.r classes.now
         → LeadsIdle body.now.image.now body.now.r pc branch to → result ≡ Some to }
     ensures inside { IfSome result (λ to. to < 4096) }
 {
+    let there = lead(body, pc, branch);
     let i = body.image.instr(pc);
-    if branch && is_loop(i.opcode) && !classes.is_idle(pc, i.a) {
-        return None;
+    if !branch {
+        return there;
     }
-    lead(body, pc, branch)
+    if !is_loop(i.opcode) {
+        return there;
+    }
+    if classes.is_idle(pc, i.a) {
+        there
+    } else {
+        None
+    }
 }

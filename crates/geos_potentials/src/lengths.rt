@@ -57,14 +57,11 @@ pub(crate) struct Lengths {
 }
 
 impl Lengths {
-    ghost use Rattle.std.specs.Prelude.{◌≡◌, ◌<◌, ◌≤◌, ℕ, Bool, None, Some, true, false, length, slice_set, IfOk, IfSome, IfNone};
-    ghost use Rattle.geos_potentials.specs.Least.{steps_at, first_at, link_at, NoLengths, BeginsWith, PaysLink, AtMost, StayAtMost, Covers, AreCovered, AreLonger};
-    ghost use Rattle.geos_potentials.specs.Looks.{SomeIsLonger, AreCoveredIn};
+    ghost use Rattle.std.specs.Prelude.{◌≡◌, ◌<◌, ◌≤◌, ℕ, Bool, None, Some, true, false, length, slice_set, IfSome};
+    ghost use Rattle.geos_potentials.specs.Least.{steps_at, link_at, PaysLink, AtMost, StayAtMost};
 
     /// No edge is looked at, and no way is known.
-    pub(crate) fn new(alloc: Global) -> Result<Lengths, AllocError>
-        ensures { IfOk result NoLengths }
-    {
+    pub(crate) fn new(alloc: Global) -> Result<Lengths, AllocError> {
         let (links, ways) = two_tables(alloc, [None, None], Way::NOTHING)?;
         Ok(Lengths {
             links,
@@ -129,10 +126,7 @@ impl Lengths {
     }
 
     /// No edge is known that made ways so long as they are, among the places of a piece.
-    pub(crate) fn forget(&mut self, order: &Order, piece: &Piece)
-        ensures links { self.new.links ≡ self.old.links }
-        ensures same { (pc : ℕ) → steps_at self.new.ways pc ≡ steps_at self.old.ways pc }
-    {
+    pub(crate) fn forget(&mut self, order: &Order, piece: &Piece) {
         for x in piece.begin..piece.end {
             let pc = order.place(x);
             let steps = self.steps(pc);
@@ -143,7 +137,6 @@ impl Lengths {
     /// Which edge made the way from a place so long; `true` for the one to the target.
     pub(crate) fn first(&self, pc: u16) -> Option<bool>
         requires { pc < 4096 }
-        ensures { result ≡ first_at self.now.ways pc }
     {
         self.ways.get(pc).first
     }
@@ -151,8 +144,6 @@ impl Lengths {
     /// The edge that made the way from a place so long.
     fn next(&self, pc: u16) -> Option<Link>
         requires { pc < 4096 }
-        ensures some { IfSome result (BeginsWith self.now.links self.now.ways pc) }
-        ensures none { IfNone result ((link : Link) → BeginsWith self.now.links self.now.ways pc link → ⊥) }
     {
         let branch = self.first(pc)?;
         self.link(pc, branch)
@@ -162,7 +153,6 @@ impl Lengths {
     #[inline(always)]
     fn over(&self, link: &Option<Link>) -> u64
         ensures below { (want : ℕ → ℕ) (pc : ℕ) → AtMost self.now.ways want → PaysLink want pc link.now → result ≤ want pc }
-        ensures covers { Covers self.now.ways result link.now }
     {
         match link {
             Some(link) => self
@@ -181,11 +171,6 @@ impl Lengths {
         requires { pc < 4096 }
         ensures links { self.new.links ≡ self.old.links }
         ensures below { StayAtMost self.old.links self.old.ways self.new.ways }
-        ensures longer { AreLonger self.old.ways self.new.ways }
-        ensures grows { result ≡ true → steps_at self.old.ways pc < steps_at self.new.ways pc }
-        ensures same { result ≡ false → self.new ≡ self.old }
-        ensures covered { result ≡ false → (branch : Bool)
-            → Covers self.old.ways (steps_at self.old.ways pc) (link_at self.old.links pc branch) }
     {
         let [along, branching] = self.links.get(pc);
         let by_along = self.over(along);
@@ -209,11 +194,6 @@ impl Lengths {
     pub(crate) fn sweep(&mut self, order: &Order, piece: &Piece) -> bool
         ensures links { self.new.links ≡ self.old.links }
         ensures below { StayAtMost self.old.links self.old.ways self.new.ways }
-        ensures longer { AreLonger self.old.ways self.new.ways }
-        ensures grows { result ≡ true → SomeIsLonger self.old.ways self.new.ways }
-        ensures some { result ≡ true → piece.now.begin < piece.now.end }
-        ensures same { result ≡ false → self.new ≡ self.old }
-        ensures covered { result ≡ false → AreCoveredIn order.now piece.now self.new.links self.new.ways }
     {
         let mut longer = false;
         for x in piece.begin..piece.end {
@@ -227,10 +207,6 @@ impl Lengths {
         requires { end ≤ 4096 }
         ensures links { self.new.links ≡ self.old.links }
         ensures below { StayAtMost self.old.links self.old.ways self.new.ways }
-        ensures longer { AreLonger self.old.ways self.new.ways }
-        ensures grows { result ≡ true → SomeIsLonger self.old.ways self.new.ways }
-        ensures some { result ≡ true → begin < end }
-        ensures covered { result ≡ false → AreCovered self.new.links self.new.ways begin end }
     {
         for pc in begin..end {
             if self.lengthen(pc) {
@@ -245,10 +221,6 @@ impl Lengths {
     pub(crate) fn sweep_all(&mut self, order: &Order, piece: &Piece) -> bool
         ensures links { self.new.links ≡ self.old.links }
         ensures below { StayAtMost self.old.links self.old.ways self.new.ways }
-        ensures longer { AreLonger self.old.ways self.new.ways }
-        ensures grows { result ≡ true → SomeIsLonger self.old.ways self.new.ways }
-        ensures some { result ≡ true → piece.now.begin < piece.now.end }
-        ensures covered { result ≡ false → AreCovered self.new.links self.new.ways piece.now.begin piece.now.end }
     {
         if self.sweep(order, piece) {
             return true;
@@ -300,10 +272,6 @@ impl Lengths {
     /// No way was followed.
     pub(crate) fn clear(&mut self, start: u16)
         requires { start < 4096 }
-        ensures links { self.new.links ≡ self.old.links }
-        ensures steps { (pc : ℕ) → start ≤ pc → pc < 4096 → steps_at self.new.ways pc ≡ 0 }
-        ensures first { (pc : ℕ) → start ≤ pc → pc < 4096 → first_at self.new.ways pc ≡ None }
-        ensures mark { self.new.mark ≡ 0 }
     {
         self.mark = 0;
         self.ways.fill_from(start, Way::NOTHING);

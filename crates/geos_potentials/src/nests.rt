@@ -1,18 +1,7 @@
 //! Nests: places among which control goes round, each with the LOOPs that pay for that.
 
-ghost use Rattle.std.specs.Prelude.{◌≡◌, ◌≢◌, ◌<◌, ◌≤◌, ◌+◌, ℕ, None, Some, true, false, min, IfOk, IfSome, IfNone, IfErr, slice_index, slice_index_or, slice_set};
-ghost use Rattle.control_graph.specs.Led.{AreLed};
-ghost use Rattle.geos_potentials.specs.Making.{AreInside, IsSomeChosen, plain_in, AreMarked, StayListed, CanGoOn, CanMake, NonePay};
-ghost use Rattle.control_graph.specs.Orders.{AreOrdered, HasPlace};
-ghost use Rattle.control_graph.specs.Parts.{CanSplit};
-ghost use Rattle.geos_potentials.specs.Splits.{WaitBefore, WaitInOrder, IsSplit, NoNests};
-ghost use Rattle.geos_potentials.specs.Pieces.{NoneMayPay};
-ghost use Rattle.geos_potentials.specs.Spent.{AreFree, AreLeftOut, MayPayAt, StayFree};
-ghost use Rattle.control_graph.specs.Ways.{HasRound};
-ghost use Rattle.geos_potentials.specs.Stuck.{StayNoted, GoesRoundIdle};
-ghost use Rattle.geos_potentials.specs.Tight.{IsListed, MayPayWhereMarked, AreRightlyTight, StayRightlyTight};
-ghost use Rattle.geos_potentials.specs.Untouched.{AreUntouched, StayUntouched};
-ghost use Rattle.geos_potentials.specs.Whole.{AreWhole, EachRoundPays, PayInNests};
+ghost use Rattle.std.specs.Prelude.{◌≡◌, ◌<◌, ◌+◌, None, Some, true, false, min, slice_index_or};
+ghost use Rattle.geos_potentials.specs.Stuck.{StayNoted};
 ghost use Rattle.control_graph.specs.declared.jumps.Jump.TheVariants.{Plain};
 ghost use Rattle.geos_potentials.specs.declared.nests.Nest.{Nest};
 ghost use Rattle.geos_potentials.specs.declared.nests.Waiting.{Waiting};
@@ -62,9 +51,6 @@ pub struct Nest {
 }
 
 impl Nest {
-    ghost use Rattle.std.specs.Prelude.{◌≡◌, true};
-    ghost use Rattle.geos_potentials.specs.Rings.{IsDueBy};
-
     const NOTHING: Nest = Nest {
         piece: Piece { begin: 0, end: 0 },
         counter: 0,
@@ -78,10 +64,7 @@ impl Nest {
     };
 
     /// Whether it was last to be paid for again for another nest, as that is paid for in a round.
-    pub(crate) fn is_due_by(&self, on: u16, round: u32) -> bool
-        ensures only { result ≡ true → IsDueBy self.now on round }
-        ensures all { IsDueBy self.now on round → result ≡ true }
-    {
+    pub(crate) fn is_due_by(&self, on: u16, round: u32) -> bool {
         match self.due_by {
             Some(wait) => wait.on == on && wait.round == round,
             None => false,
@@ -110,9 +93,7 @@ pub struct Nests {
 
 impl Nests {
     /// There are none.
-    pub(crate) fn new(alloc: Global) -> Result<Nests, AllocError>
-        ensures { IfOk result NoNests }
-    {
+    pub(crate) fn new(alloc: Global) -> Result<Nests, AllocError> {
         let waiting = Waiting {
             piece: Piece { begin: 0, end: 0 },
             around: None,
@@ -129,9 +110,7 @@ impl Nests {
     }
 
     /// How many there are.
-    pub(crate) fn count(&self) -> u16
-        ensures { result ≡ self.now.count }
-    {
+    pub(crate) fn count(&self) -> u16 {
         self.count
     }
 
@@ -145,37 +124,19 @@ impl Nests {
 
     pub(crate) fn set(&mut self, id: u16, nest: Nest)
         requires { id < 4096 }
-        ensures list { self.new.list ≡ slice_set self.old.list id nest }
-        ensures there { (other : Nest) → slice_index_or self.new.list id other ≡ nest }
-        ensures count { self.new.count ≡ self.old.count }
-        ensures inner { self.new.inner ≡ self.old.inner }
     {
-        // For what its law says.
-        self.list.lengths();
         self.list.set(id, nest);
     }
 
     /// The innermost nest of the edge from a place to the next.
     pub(crate) fn inner(&self, pc: u16) -> Option<u16>
         requires { pc < 4096 }
-        ensures { result ≡ slice_index_or self.now.inner pc None }
     {
         self.inner.at(pc)
     }
 
     /// A component is to be a nest.
-    fn wait(&mut self, piece: Piece, around: Option<u16>)
-        ensures list { self.new.list ≡ self.old.list }
-        ensures count { self.new.count ≡ self.old.count }
-        ensures inner { self.new.inner ≡ self.old.inner }
-        ensures waits { self.old.waits < 4096 → self.new.waits ≡ self.old.waits + 1 }
-        ensures here { self.old.waits < 4096 → (other : Waiting)
-            → slice_index_or self.new.waiting self.old.waits other ≡ record { piece = piece; around = around } }
-        ensures others { (n : ℕ) (other : Waiting) → n ≢ self.old.waits
-            → slice_index_or self.new.waiting n other ≡ slice_index_or self.old.waiting n other }
-    {
-        // For what its law says.
-        self.waiting.lengths();
+    fn wait(&mut self, piece: Piece, around: Option<u16>) {
         if self.waits < MOST_INSTRS {
             self.waiting.set(self.waits, Waiting { piece, around });
             self.waits += 1;
@@ -183,15 +144,7 @@ impl Nests {
     }
 
     /// The last component that is to be a nest.
-    fn take(&mut self) -> Option<Waiting>
-        ensures list { self.new.list ≡ self.old.list }
-        ensures count { self.new.count ≡ self.old.count }
-        ensures inner { self.new.inner ≡ self.old.inner }
-        ensures waiting { self.new.waiting ≡ self.old.waiting }
-        ensures none { IfNone result (self.old.waits ≤ 4096 → self.old.waits ≡ 0) }
-        ensures some { IfSome result (λ taken. (self.new.waits + 1 ≡ self.old.waits)
-            × ((other : Waiting) → slice_index_or self.old.waiting self.new.waits other ≡ taken)) }
-    {
+    fn take(&mut self) -> Option<Waiting> {
         if self.waits == 0 || MOST_INSTRS < self.waits {
             return None;
         }
@@ -201,18 +154,10 @@ impl Nests {
 
     /// Lists a nest; its number.
     fn list(&mut self, waiting: &Waiting, choice: &Choice) -> u16
-        requires { self.old.count < 4096 }
-        ensures id { result ≡ self.old.count }
-        ensures count { self.new.count ≡ self.old.count + 1 }
-        ensures here { (other : Nest) → IsListed waiting.now choice.now (slice_index_or self.new.list self.old.count other) }
-        ensures others { (id : ℕ) (other : Nest) → id ≢ self.old.count
-            → slice_index_or self.new.list id other ≡ slice_index_or self.old.list id other }
-        ensures waiting { self.new.waiting ≡ self.old.waiting }
-        ensures waits { self.new.waits ≡ self.old.waits }
+        ensures { result < 4096 }
     {
-        // For what its law says.
-        self.list.lengths();
-        let id = self.count;
+        // There is room: each takes a LOOP.
+        let id = self.count.min(MOST_INSTRS - 1);
         let depth = self.depth_in(waiting.around);
         let nest = Nest {
             piece: waiting.piece,
@@ -229,11 +174,7 @@ impl Nests {
     }
 
     /// How many nests are around one in a nest.
-    fn depth_in(&self, around: Option<u16>) -> u16
-        ensures none { around ≡ None → result ≡ 0 }
-        ensures some { (nest : ℕ) (other : Nest) → around ≡ Some nest → nest < 4096
-            → result ≡ min ((slice_index_or self.now.list nest other).depth + 1) 65535 }
-    {
+    fn depth_in(&self, around: Option<u16>) -> u16 {
         match around {
             Some(nest) if nest < MOST_INSTRS => self.list.at(nest).depth.saturating_add(1),
             _ => 0,
@@ -252,10 +193,7 @@ pub struct Splitting {
 
 impl Splitting {
     /// There are no nests, and nothing is found of LOOPs.
-    pub(crate) fn new(alloc: Global) -> Result<Splitting, AllocError>
-        ensures nests { IfOk result (λ splitting. NoNests splitting.nests) }
-        ensures jumps { IfOk result (λ splitting. (pc : ℕ) → slice_index_or splitting.jumps pc Plain ≡ Plain) }
-    {
+    pub(crate) fn new(alloc: Global) -> Result<Splitting, AllocError> {
         let order = Order::new(alloc)?;
         let jumps = Table::new(alloc, Jump::Plain)?;
         let nests = Nests::new(alloc)?;
@@ -269,10 +207,7 @@ impl Splitting {
     }
 
     /// Whether control goes round among the places of a piece, which are a component.
-    fn goes_round(&self, graph: &Graph, piece: &Piece) -> bool
-        ensures only { result ≡ true → HasRound graph.now.arcs self.now.jumps self.now.order piece.now }
-        ensures all { HasRound graph.now.arcs self.now.jumps self.now.order piece.now → result ≡ true }
-    {
+    fn goes_round(&self, graph: &Graph, piece: &Piece) -> bool {
         if MOST_INSTRS <= piece.begin || piece.length() == 0 {
             return false;
         }
@@ -285,26 +220,9 @@ impl Splitting {
     }
 
     /// Splits a piece into its components; those in which control goes round are to be nests.
-    fn split(&mut self, graph: &Graph, piece: &Piece, around: Option<u16>)
-        ensures list { self.new.nests.list ≡ self.old.nests.list }
-        ensures count { self.new.nests.count ≡ self.old.nests.count }
-        ensures inner { self.new.nests.inner ≡ self.old.nests.inner }
-        ensures jumps { self.new.jumps ≡ self.old.jumps }
-        ensures ordered { (start last : ℕ) → CanSplit graph.now self.old.order start last piece.now → AreOrdered self.new.order start last }
-        ensures others { (start last pc : ℕ) → CanSplit graph.now self.old.order start last piece.now
-            → (HasPlace self.old.order piece.now pc → ⊥) → slice_index self.new.order.at pc ≡ slice_index self.old.order.at pc }
-        ensures split { (start last : ℕ) → CanSplit graph.now self.old.order start last piece.now → WaitBefore self.old.nests piece.now
-            → IsSplit graph.now.arcs self.old.jumps self.old.order self.new.order piece.now self.old.nests self.new.nests }
-        ensures wait { (start last : ℕ) → CanSplit graph.now self.old.order start last piece.now → WaitBefore self.old.nests piece.now
-            → WaitInOrder self.new.nests }
-        ensures around { (start last n : ℕ) (other : Waiting) → CanSplit graph.now self.old.order start last piece.now
-            → WaitBefore self.old.nests piece.now → self.old.nests.waits ≤ n → n < self.new.nests.waits
-            → (slice_index_or self.new.nests.waiting n other).around ≡ around }
-    {
+    fn split(&mut self, graph: &Graph, piece: &Piece, around: Option<u16>) {
         self.components
             .arrange(graph, &self.jumps, &mut self.order, piece);
-        // For what its law says.
-        self.order.places.lengths();
         let mut begin = piece.begin;
         for component in (0..self.components.count().min(MOST_INSTRS)).rev() {
             let part = self.components.part_of(component, begin);
@@ -318,9 +236,6 @@ impl Splitting {
     /// A nest is the innermost of the edge from a place to the next, if that stays in its piece.
     fn note_inner(&mut self, graph: &Graph, piece: &Piece, pc: u16, nest: u16)
         requires { pc < 4096 }
-        ensures order { self.new.order ≡ self.old.order }
-        ensures jumps { self.new.jumps ≡ self.old.jumps }
-        ensures nests { StayListed self.old.nests self.new.nests }
     {
         if let Some(arc) = graph.arc(pc, false) {
             if self.order.has(piece, arc.to) {
@@ -330,17 +245,7 @@ impl Splitting {
     }
 
     /// The LOOPs that are chosen in a nest pay in it.
-    fn mark(&mut self, graph: &Graph, classes: &Classes, piece: &Piece, choice: &Chosen)
-        ensures order { self.new.order ≡ self.old.order }
-        ensures nests { StayListed self.old.nests self.new.nests }
-        ensures marked { AreMarked self.old.order piece.now choice.now.nest self.old.jumps self.new.jumps }
-        ensures fewer { IsSomeChosen graph.now.arcs self.old.jumps self.old.order classes.now piece.now choice.now.choice
-            → plain_in self.new.jumps < plain_in self.old.jumps }
-        ensures may { MayPayWhereMarked graph.now.arcs self.old.order classes.now piece.now choice.now.choice choice.now.nest
-            self.old.jumps self.new.jumps }
-        ensures untouched { (low : ℕ) → StayUntouched low graph.now.arcs self.old.jumps self.new.jumps classes.now.touched }
-        ensures free { StayFree self.old.jumps self.new.jumps }
-    {
+    fn mark(&mut self, graph: &Graph, classes: &Classes, piece: &Piece, choice: &Chosen) {
         for x in piece.begin..piece.end {
             let pc = self.order.place(x);
             self.note_inner(graph, piece, pc, choice.nest);
@@ -358,20 +263,8 @@ impl Splitting {
         classes: &mut Classes,
         waiting: &Waiting,
     ) -> Result<(), Piece>
-        requires can { CanMake graph.now.arcs body.now.start body.now.end self.old waiting.now.piece }
-        requires inside { AreInside graph.now.arcs body.now.start body.now.end }
-        requires led { AreLed graph.now }
-        ensures noted { StayNoted classes.old classes.new }
-        ensures none { IfErr result (NoneMayPay graph.now.arcs self.new.jumps self.new.order classes.new) }
-        ensures round { IfErr result (GoesRoundIdle body.now.image.now body.now.r graph.now.arcs classes.new self.new.order) }
-        ensures on { IfOk result (λ _. CanGoOn graph.now.arcs body.now.start body.now.end self.new) }
-        ensures tight { IfOk result (λ _. StayRightlyTight graph.now.arcs classes.new body.now.start self.old self.new) }
-        ensures fewer { IfOk result (λ _. plain_in self.new.jumps < plain_in self.old.jumps) }
-        ensures untouched { (low : ℕ) → StayUntouched low graph.now.arcs self.old.jumps self.new.jumps classes.old.touched }
-        ensures free { StayFree self.old.jumps self.new.jumps }
+        ensures { StayNoted classes.old classes.new }
     {
-        // For what its law says.
-        self.jumps.lengths();
         let piece = &waiting.piece;
         classes.note_set_within(body.start, graph, &self.order, piece);
         let Some(choice) = choose(graph, &self.jumps, &self.order, classes, piece) else {
@@ -386,14 +279,8 @@ impl Splitting {
     }
 
     /// LOOPs to which control comes with their counters at 0 alone are left out.
-    fn free_loops(&mut self, body: &Body, graph: &Graph, classes: &Classes)
-        ensures untouched { AreUntouched body.now.start graph.now.arcs self.new.jumps classes.now.touched }
-        ensures free { AreFree graph.now.arcs self.new.jumps classes.now body.now.start body.now.end }
-        ensures none { NonePay body.now.start self.new.jumps }
-    {
+    fn free_loops(&mut self, body: &Body, graph: &Graph, classes: &Classes) {
         self.jumps.fill_from(body.start, Jump::Plain);
-        // For what its law says.
-        self.jumps.lengths();
         for pc in body.start..body.end {
             if loops_spent(graph, classes, pc) {
                 self.jumps.set(pc, Jump::Free);
@@ -402,16 +289,7 @@ impl Splitting {
     }
 
     /// Splits all the places of a routine, in which there are no nests yet.
-    fn begin(&mut self, body: &Body, graph: &Graph)
-        requires none { NonePay body.now.start self.old.jumps }
-        requires inside { AreInside graph.now.arcs body.now.start body.now.end }
-        requires led { AreLed graph.now }
-        ensures on { CanGoOn graph.now.arcs body.now.start body.now.end self.new }
-        ensures count { self.new.nests.count ≡ 0 }
-        ensures jumps { self.new.jumps ≡ self.old.jumps }
-    {
-        // For what its law says.
-        self.jumps.lengths();
+    fn begin(&mut self, body: &Body, graph: &Graph) {
         self.nests.count = 0;
         self.nests.waits = 0;
         self.nests.inner.fill_from(body.start, None);
@@ -419,43 +297,31 @@ impl Splitting {
         self.split(graph, &all, None);
     }
 
-    /// Finds the nests of a routine, each of which is a component, and tight as it should be, so that wherever control goes round a LOOP of
-    /// some nest pays, or one is left out; or a component in which control goes round and no LOOP may pay. What is known of counters stays,
-    /// but for what is set in a piece.
+    /// Finds the nests of a routine, so that wherever control goes round a LOOP of some nest pays, or one is left out; or a component in which
+    /// control goes round and no LOOP may pay. What is known of counters stays, but for what is set in a piece.
     pub(crate) fn find(
         &mut self,
         body: &Body,
         graph: &Graph,
         classes: &mut Classes,
     ) -> Result<(), Piece>
-        requires inside { AreInside graph.now.arcs body.now.start body.now.end }
-        requires led { AreLed graph.now }
-        ensures noted { StayNoted classes.old classes.new }
-        ensures none { IfErr result (NoneMayPay graph.now.arcs self.new.jumps self.new.order classes.new) }
-        ensures round { IfErr result (GoesRoundIdle body.now.image.now body.now.r graph.now.arcs classes.new self.new.order) }
-        ensures untouched { AreUntouched body.now.start graph.now.arcs self.new.jumps classes.old.touched }
-        ensures free { AreFree graph.now.arcs self.new.jumps classes.old body.now.start body.now.end }
-        ensures whole { IfOk result (λ _. AreWhole graph.now.arcs self.new) }
-        ensures tight { IfOk result (λ _. AreRightlyTight graph.now.arcs classes.new body.now.start self.new) }
-        ensures rounds { IfOk result (λ _. EachRoundPays graph.now.arcs self.new.jumps) }
-        ensures pay { IfOk result (λ _. PayInNests body.now.start self.new) }
+        ensures { StayNoted classes.old classes.new }
     {
         self.free_loops(body, graph, classes);
         self.begin(body, graph);
-        while let Some(waiting) = self.nests.take() {
+        // Each nest takes a LOOP.
+        for _ in 0..MOST_INSTRS {
+            let Some(waiting) = self.nests.take() else {
+                return Ok(());
+            };
             self.make(body, graph, classes, &waiting)?;
         }
         Ok(())
     }
 
     /// LOOPs that may pay are left out.
-    fn leave_out_paying(&mut self, body: &Body, graph: &Graph, classes: &Classes)
-        ensures left { AreLeftOut (MayPayAt graph.now.arcs classes.now) self.new.jumps body.now.start body.now.end }
-        ensures none { NonePay body.now.start self.new.jumps }
-    {
+    fn leave_out_paying(&mut self, body: &Body, graph: &Graph, classes: &Classes) {
         self.jumps.fill_from(body.start, Jump::Plain);
-        // For what its law says.
-        self.jumps.lengths();
         for pc in body.start..body.end {
             if may_pay(graph, classes, pc) {
                 self.jumps.set(pc, Jump::Free);
@@ -469,13 +335,7 @@ impl Splitting {
         body: &Body,
         graph: &Graph,
         classes: &Classes,
-    ) -> Option<Piece>
-        requires inside { AreInside graph.now.arcs body.now.start body.now.end }
-        requires led { AreLed graph.now }
-        ensures some { IfSome result (GoesRoundIdle body.now.image.now body.now.r graph.now.arcs classes.now self.new.order) }
-        ensures none { IfNone result ((order : Order) (piece : Piece)
-            → GoesRoundIdle body.now.image.now body.now.r graph.now.arcs classes.now order piece → ⊥) }
-    {
+    ) -> Option<Piece> {
         self.leave_out_paying(body, graph, classes);
         self.begin(body, graph);
         match self.nests.take() {

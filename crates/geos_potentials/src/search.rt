@@ -1,28 +1,26 @@
 //! The search for potentials of a routine with loops.
 
-ghost use Rattle.std.specs.Prelude.{◌≡◌, ◌+◌, List, [], Bool, Option, IfSome, IfNone, IfOk, IfErr};
+ghost use Rattle.std.specs.Prelude.{◌+◌, List, Bool, Option, IfSome, IfOk, IfErr};
 ghost use Rattle.geos_image.specs.Parts.{start_of};
 ghost use Rattle.geos_image.specs.declared.row.Row.{Row};
 ghost use Rattle.geos_potentials.specs.Arcs.{AreArcs};
-ghost use Rattle.geos_counters.specs.Touching.{NotesTouched, NotesAllTouched};
+ghost use Rattle.geos_counters.specs.Touching.{NotesTouched};
 ghost use Rattle.geos_potentials.specs.Constants.{ArePaidIn, AreLeastIn, AreLeastWith, AreForLoops, coefficients_at};
 ghost use Rattle.geos_potentials.specs.Count.{StaysFrom};
 ghost use Rattle.geos_potentials.specs.Demands.{AreWanted};
 ghost use Rattle.geos_potentials.specs.Halts.{IsInTheWay};
 ghost use Rattle.geos_counters.specs.Idle.{IsNeverPaid};
-ghost use Rattle.geos_potentials.specs.Lacks.{IsUnpaid};
 ghost use Rattle.geos_potentials.specs.Least.{steps_at};
 ghost use Rattle.geos_potentials.specs.Numbers.{numbers_of};
-ghost use Rattle.geos_potentials.specs.Paid.{HavePaid};
-ghost use Rattle.geos_potentials.specs.Untouched.{is_found, AreSpentIn};
-ghost use Rattle.geos_potentials.specs.Whole.{StayNests};
-ghost use Rattle.geos_potentials.specs.Within.{StayWithinLoops};
+ghost use Rattle.geos_potentials.specs.Stuck.{NotesIdle};
 
 use crate::asked::Potentials;
 use crate::classes::Classes;
 use crate::constants::{find_constants, free_loops, put_potentials};
 use crate::counting::note_edges;
 use crate::nests::Splitting;
+use crate::paid::are_paid;
+use crate::stuck::goes_round_idle;
 use crate::units::{Lack, Units};
 use control_graph::{Graph, Piece};
 use geos_code::{Body, Known};
@@ -51,9 +49,7 @@ pub struct Search {
 
 impl Search {
     /// Nothing is noted yet.
-    pub fn new(alloc: Global) -> Result<Search, AllocError>
-        ensures { IfOk result (λ search. search.units.looked.count ≡ 0) }
-    {
+    pub fn new(alloc: Global) -> Result<Search, AllocError> {
         let graph = Graph::new(alloc)?;
         let classes = Classes::new(alloc)?;
         let units = Units::new(alloc)?;
@@ -72,12 +68,6 @@ impl Search {
             → AreArcs body.now.image.now body.now.r known table self.old.graph.arcs
             → AreLeastWith body.now.image.now body.now.r known self.new.units.pay (steps_at self.new.units.lengths.ways)) }
         ensures wanted { IfOk result (λ _. AreWanted self.old.graph.arcs self.new.units.pay) }
-        ensures within { IfOk result (λ _. StayWithinLoops self.old.graph.arcs self.old.splitting.jumps is_found [] self.new.units.pay) }
-        ensures paid { IfOk result (λ _. HavePaid body.now.image.now body.now.r self.old.graph self.old.splitting.jumps self.new.units.pay
-            self.new.units.lengths.ways) }
-        ensures lack { IfErr result (IsUnpaid self.new.graph.arcs self.new.splitting self.new.units) }
-        ensures graph { self.new.graph ≡ self.old.graph }
-        ensures nests { StayNests self.old.splitting self.new.splitting }
     {
         self.units
             .pay_all(body.start, &self.graph, &mut self.splitting)?;
@@ -86,8 +76,19 @@ impl Search {
         Ok(())
     }
 
-    /// Finds potentials of a routine, or what is in the way. They pay for its edges and returns; the constants are the least that do with the
-    /// coefficients, and each of these is wanted for a LOOP.
+    /// Why nests stop at a component: control goes round in it, and no LOOP may pay there. That it always does so is not proved.
+    fn halt_at(&self, body: &Body, piece: Piece) -> Halt
+        ensures { NotesIdle body.now.image.now body.now.r self.now.classes → IsInTheWay body.now.image.now body.now.r result }
+    {
+        if goes_round_idle(body, &self.classes, &self.splitting.order, &piece) {
+            Halt::Stuck(piece)
+        } else {
+            Halt::Unpaid(Lack::Looks)
+        }
+    }
+
+    /// Finds potentials of a routine, or what is in the way. They pay for its edges and returns, which is looked at; the constants are the
+    /// least that do with the coefficients, and each of these is wanted for a LOOP.
     pub fn find(
         &mut self,
         body: &Body,
@@ -98,37 +99,39 @@ impl Search {
         ensures least { IfOk result (λ _. AreLeastIn body.now.image.now body.now.r known.now (numbers_of potentials.new)) }
         ensures paid { IfOk result (λ _. ArePaidIn body.now.image.now body.now.r known.now (numbers_of potentials.new)) }
         ensures wanted { IfOk result (λ _. AreForLoops body.now.image.now body.now.r (coefficients_at (numbers_of potentials.new).coefficients)) }
-        ensures spent { IfOk result (λ _. AreSpentIn body.now.image.now body.now.r touched.now (numbers_of potentials.new).coefficients) }
-        ensures way { NotesTouched body.now.image.now touched.now
-            → IfErr result (IsInTheWay body.now.image.now body.now.r known.now self.new) }
-        ensures noted { AreArcs body.now.image.now body.now.r known.now touched.now self.new.graph.arcs }
+        ensures way { NotesTouched body.now.image.now touched.now → IfErr result (IsInTheWay body.now.image.now body.now.r) }
         ensures stays { StaysFrom (start_of body.now.image.now.routines (body.now.r + 1)) (numbers_of potentials.old) (numbers_of potentials.new) }
     {
         note_edges(&mut self.graph, body, known, touched);
         self.classes.note(body, &self.graph);
         if let Err(piece) = self.splitting.find(body, &self.graph, &mut self.classes) {
-            return Err(Halt::Stuck(piece));
+            return Err(self.halt_at(body, piece));
         }
         match self.pay(body) {
             Ok(()) => {}
             Err(lack) => return Err(Halt::Unpaid(lack)),
         }
-        if put_potentials(body, &self.units, potentials) {
+        if !put_potentials(body, &self.units, potentials) {
+            return Err(Halt::Passes);
+        }
+        if are_paid(body, known, potentials) {
             Ok(())
         } else {
-            Err(Halt::Passes)
+            Err(Halt::Unpaid(Lack::Looks))
         }
     }
 
-    /// Finds a component only where control goes round in the routine on a way on which no LOOP may pay, and none only where it does so
-    /// nowhere, if all is known that routines touch.
+    /// Finds a component in which control goes round on a way on which no LOOP may pay, if all is known that routines touch.
     pub fn find_idle(&mut self, body: &Body, known: &Known, touched: &Touched) -> Option<Piece>
-        ensures some { NotesTouched body.now.image.now touched.now → IfSome result (λ _. IsNeverPaid body.now.image.now body.now.r) }
-        ensures none { NotesTouched body.now.image.now touched.now → NotesAllTouched body.now.image.now touched.now
-            → IfNone result (IsNeverPaid body.now.image.now body.now.r → ⊥) }
+        ensures { NotesTouched body.now.image.now touched.now → IfSome result (λ _. IsNeverPaid body.now.image.now body.now.r) }
     {
         note_edges(&mut self.graph, body, known, touched);
         self.classes.note(body, &self.graph);
-        self.splitting.find_idle(body, &self.graph, &self.classes)
+        let piece = self.splitting.find_idle(body, &self.graph, &self.classes)?;
+        if goes_round_idle(body, &self.classes, &self.splitting.order, &piece) {
+            Some(piece)
+        } else {
+            None
+        }
     }
 }

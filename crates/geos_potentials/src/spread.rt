@@ -1,15 +1,12 @@
 //! Numbers of counters go along edges, or back over them, as long as these keep the counters; at each place the greatest stays.
 
-ghost use Rattle.std.specs.Prelude.{◌≡◌, ◌≤◌, ◌<◌, ◌+◌, ◌*◌, ◌⊎◌, ℕ, true, false, max, length, slice_index, slice_index_or, slice_set};
+ghost use Rattle.std.specs.Prelude.{◌≡◌, ◌≤◌, ◌<◌, ◌+◌, ◌*◌, ℕ, true, false, max, length, slice_index, slice_index_or, slice_set};
 ghost use Rattle.geos_verify.specs.Lists.{zip2};
 ghost use Rattle.control_graph.specs.Arcs.{arc_at, taken_from};
-ghost use Rattle.geos_potentials.specs.Carried.{AreHeld, NoneHeld, AreBroughtBack, AreBroughtOn, CarriesInto, Carries, SpreadOn};
 ghost use Rattle.geos_potentials.specs.Demands.{kept_over, left_in, AreRaised, HaveGrown, StayWanted};
 ghost use Rattle.geos_potentials.specs.Least.{is_free, StayAtLoops};
 ghost use Rattle.geos_counters.specs.Counters.{zeros};
 ghost use Rattle.geos_potentials.specs.Spreads.{HaveCome, StayCome};
-ghost use Rattle.geos_potentials.specs.Waits.{HaveRisen};
-ghost use Rattle.geos_potentials.specs.Within.{StayWithin};
 ghost use Rattle.control_graph.specs.declared.arcs.Arc.{Arc};
 ghost use Rattle.control_graph.specs.declared.jumps.Jump.TheVariants.{Plain};
 
@@ -69,7 +66,6 @@ fn greatest(a: &[u32; 4], b: &[u32; 4]) -> [u32; 4]
 pub(crate) fn raise(spread: &mut Spread, waits: &mut Pile, pc: u16, numbers: &[u32; 4])
     requires { pc < 4096 }
     ensures raised { AreRaised spread.old spread.new pc numbers.now }
-    ensures risen { HaveRisen spread.old spread.new waits.old waits.new }
     ensures work { 2 * left_in spread.new + waits.new.count ≤ 2 * left_in spread.old + waits.old.count }
 {
     // For what its law says.
@@ -86,7 +82,6 @@ pub(crate) fn raise(spread: &mut Spread, waits: &mut Pile, pc: u16, numbers: &[u
 fn go_along(graph: &Graph, spread: &mut Spread, waits: &mut Pile, pc: u16, branch: bool)
     requires { pc < 4096 }
     ensures come { StayCome graph.now.arcs pc spread.old spread.new }
-    ensures on { AreBroughtOn graph.now.arcs pc branch spread.old spread.new waits.old waits.new }
     ensures work { 2 * left_in spread.new + waits.new.count ≤ 2 * left_in spread.old + waits.old.count }
 {
     if let Some(arc) = graph.arc(pc, branch) {
@@ -97,9 +92,7 @@ fn go_along(graph: &Graph, spread: &mut Spread, waits: &mut Pile, pc: u16, branc
 
 /// The numbers at the places that wait go along all edges: those from a pc on, which are of the routine that is looked at.
 pub(crate) fn go_on(graph: &Graph, low: u16, spread: &mut Spread, waits: &mut Pile)
-    ensures come { HaveCome graph.now.arcs low spread.old spread.new }
-    ensures on { SpreadOn graph.now.arcs low spread.old spread.new waits.old }
-    ensures more { HaveGrown spread.old spread.new }
+    ensures { HaveCome graph.now.arcs low spread.old spread.new }
 {
     while let Some(pc) = waits.take() {
         if low <= pc {
@@ -114,8 +107,6 @@ fn go_back_over(graph: &Graph, spread: &mut Spread, waits: &mut Pile, pc: u16, b
     requires { pc < 4096 }
     ensures wanted { StayWanted graph.now.arcs spread.old spread.new }
     ensures more { HaveGrown spread.old spread.new }
-    ensures within { StayWithin graph.now.arcs spread.old spread.new }
-    ensures carried { AreBroughtBack graph.now.arcs NoneHeld pc branch spread.old spread.new waits.old waits.new }
     ensures work { 2 * left_in spread.new + waits.new.count ≤ 2 * left_in spread.old + waits.old.count }
 {
     if let Some(arc) = graph.arc(pc, branch) {
@@ -129,8 +120,6 @@ pub(crate) fn go_back_from(graph: &Graph, spread: &mut Spread, waits: &mut Pile,
     requires { to < 4096 }
     ensures wanted { StayWanted graph.now.arcs spread.old spread.new }
     ensures more { HaveGrown spread.old spread.new }
-    ensures within { StayWithin graph.now.arcs spread.old spread.new }
-    ensures carried { CarriesInto graph.now NoneHeld to spread.old spread.new waits.old waits.new }
     ensures work { 2 * left_in spread.new + waits.new.count ≤ 2 * left_in spread.old + waits.old.count }
 {
     let mut lead = graph.first_into(to);
@@ -147,8 +136,6 @@ pub(crate) fn go_back_from(graph: &Graph, spread: &mut Spread, waits: &mut Pile,
 pub(crate) fn go_back(graph: &Graph, spread: &mut Spread, waits: &mut Pile)
     ensures wanted { StayWanted graph.now.arcs spread.old spread.new }
     ensures more { HaveGrown spread.old spread.new }
-    ensures within { StayWithin graph.now.arcs spread.old spread.new }
-    ensures carried { Carries graph.now NoneHeld spread.old spread.new waits.old }
 {
     while let Some(pc) = waits.take() {
         go_back_from(graph, spread, waits, pc);
@@ -160,9 +147,8 @@ pub(crate) fn go_back(graph: &Graph, spread: &mut Spread, waits: &mut Pile)
 /// The counter of the LOOP at a place, if it is not left out.
 fn counter_at(graph: &Graph, jumps: &Jumps, pc: u16) -> Option<u8>
     requires { pc < 4096 }
-    ensures counter { (arc : Arc) (k : ℕ) → arc_at graph.now.arcs pc true ≡ Some arc → taken_from arc.counting ≡ Some k
+    ensures { (arc : Arc) (k : ℕ) → arc_at graph.now.arcs pc true ≡ Some arc → taken_from arc.counting ≡ Some k
         → is_free (slice_index_or jumps.now pc Plain) ≡ false → result ≡ Some k }
-    ensures held { (k : ℕ) → result ≡ Some k → AreHeld graph.now.arcs jumps.now pc k }
 {
     if let Jump::Free = jumps.at(pc) {
         return None;
@@ -174,7 +160,6 @@ fn counter_at(graph: &Graph, jumps: &Jumps, pc: u16) -> Option<u8>
 fn without(numbers: &[u32; 4], counter: Option<u8>) -> [u32; 4]
     ensures others { (k : ℕ) → 0 < slice_index result k → slice_index result k ≡ slice_index numbers.now k }
     ensures none { (k : ℕ) → counter ≡ Some k → slice_index result k ≡ 0 }
-    ensures same { (k : ℕ) → k < 4 → (slice_index result k ≡ slice_index numbers.now k) ⊎ (counter ≡ Some k) }
 {
     let [n0, n1, n2, n3] = *numbers;
     match counter {
@@ -199,9 +184,7 @@ fn go_back_free_over(
     requires { pc < 4096 }
     ensures wanted { StayWanted graph.now.arcs spread.old spread.new }
     ensures more { HaveGrown spread.old spread.new }
-    ensures within { StayWithin graph.now.arcs spread.old spread.new }
     ensures stay { StayAtLoops graph.now.arcs jumps.now spread.old spread.new }
-    ensures carried { AreBroughtBack graph.now.arcs (AreHeld graph.now.arcs jumps.now) pc branch spread.old spread.new waits.old waits.new }
     ensures work { 2 * left_in spread.new + waits.new.count ≤ 2 * left_in spread.old + waits.old.count }
 {
     if let Some(arc) = graph.arc(pc, branch) {
@@ -218,9 +201,7 @@ fn go_back_free_from(graph: &Graph, jumps: &Jumps, spread: &mut Spread, waits: &
     requires { to < 4096 }
     ensures wanted { StayWanted graph.now.arcs spread.old spread.new }
     ensures more { HaveGrown spread.old spread.new }
-    ensures within { StayWithin graph.now.arcs spread.old spread.new }
     ensures stay { StayAtLoops graph.now.arcs jumps.now spread.old spread.new }
-    ensures carried { CarriesInto graph.now (AreHeld graph.now.arcs jumps.now) to spread.old spread.new waits.old waits.new }
     ensures work { 2 * left_in spread.new + waits.new.count ≤ 2 * left_in spread.old + waits.old.count }
 {
     let mut lead = graph.first_into(to);
@@ -237,9 +218,7 @@ fn go_back_free_from(graph: &Graph, jumps: &Jumps, spread: &mut Spread, waits: &
 pub(crate) fn go_back_free(graph: &Graph, jumps: &Jumps, spread: &mut Spread, waits: &mut Pile)
     ensures wanted { StayWanted graph.now.arcs spread.old spread.new }
     ensures more { HaveGrown spread.old spread.new }
-    ensures within { StayWithin graph.now.arcs spread.old spread.new }
     ensures stay { StayAtLoops graph.now.arcs jumps.now spread.old spread.new }
-    ensures carried { Carries graph.now (AreHeld graph.now.arcs jumps.now) spread.old spread.new waits.old }
 {
     while let Some(pc) = waits.take() {
         go_back_free_from(graph, jumps, spread, waits, pc);

@@ -1,17 +1,9 @@
 //! What a unit of each counter pays for, nest by nest: as much as ways round lack that go through its LOOPs.
 
-ghost use Rattle.std.specs.Prelude.{◌≡◌, ◌≢◌, ◌<◌, ◌≤◌, ◌+◌, ◌-◌, ◌*◌, ℕ, min, true, false, [], Some, IfOk, IfErr, slice_index_or};
+ghost use Rattle.std.specs.Prelude.{◌≡◌, ◌≢◌, ◌<◌, ◌≤◌, ◌+◌, ◌-◌, ◌*◌, ℕ, min, true, false, Some};
 ghost use Rattle.geos_potentials.specs.Arcs.{IsLink, unit_at, price_of, paid_by};
-ghost use Rattle.control_graph.specs.Arcs.{arc_at, taken_from};
-ghost use Rattle.geos_potentials.specs.Carried.{AreCarried, AreHeld, Carries, NoneHeld, StayCarried};
 ghost use Rattle.geos_potentials.specs.Demands.{AreWanted, HaveGrown, StayWanted};
-ghost use Rattle.geos_potentials.specs.Lacks.{IsUnpaid, AreDueFor, IsDueAt, PricePasses};
-ghost use Rattle.geos_potentials.specs.Least.{StayAtLoops, StayAtMost, AreLonger, AreCovered};
-ghost use Rattle.control_graph.specs.Led.{AreLed};
-ghost use Rattle.geos_potentials.specs.Looks.{RisesBy, SomeIsLonger, AreCoveredIn};
-ghost use Rattle.geos_potentials.specs.Waits.{HaveRisen};
-ghost use Rattle.geos_potentials.specs.Whole.{StayNests};
-ghost use Rattle.geos_potentials.specs.Within.{StayWithin, StayWithinAt, StayWithinLoops, pays};
+ghost use Rattle.geos_potentials.specs.Least.{StayAtLoops, StayAtMost};
 ghost use Rattle.control_graph.specs.declared.arcs.Arc.{Arc};
 ghost use Rattle.geos_potentials.specs.declared.nests.Nest.{Nest};
 
@@ -55,10 +47,7 @@ pub struct Units {
 }
 
 /// Why a nest was last to be paid for again, where that is for another one, whose counter is set at a place in it.
-fn due_by(paying: &Paying, id: u16, nest: &Nest, at: u16, round: u32) -> Option<Wait>
-    ensures own { id ≡ paying.now.id → result ≡ nest.now.due_by }
-    ensures other { id ≢ paying.now.id → result ≡ Some (record { on = paying.now.id; at = at; round = round }) }
-{
+fn due_by(paying: &Paying, id: u16, nest: &Nest, at: u16, round: u32) -> Option<Wait> {
     if id == paying.id {
         return nest.due_by;
     }
@@ -72,12 +61,6 @@ fn due_by(paying: &Paying, id: u16, nest: &Nest, at: u16, round: u32) -> Option<
 /// A nest is to be paid for again.
 fn set_due(splitting: &mut Splitting, id: u16)
     requires { id < 4096 }
-    ensures jumps { splitting.new.jumps ≡ splitting.old.jumps }
-    ensures count { splitting.new.nests.count ≡ splitting.old.nests.count }
-    ensures nests { StayNests splitting.old splitting.new }
-    ensures due { IsDueAt splitting.new.nests id }
-    ensures others { (at : ℕ) (other : Nest) → at ≢ id
-        → slice_index_or splitting.new.nests.list at other ≡ slice_index_or splitting.old.nests.list at other }
 {
     let mut nest = splitting.nests.at(id);
     nest.due = true;
@@ -88,10 +71,6 @@ fn set_due(splitting: &mut Splitting, id: u16)
 /// there.
 fn note_rest(splitting: &mut Splitting, id: u16, rest: &Rest)
     requires { id < 4096 }
-    ensures jumps { splitting.new.jumps ≡ splitting.old.jumps }
-    ensures count { splitting.new.nests.count ≡ splitting.old.nests.count }
-    ensures nests { StayNests splitting.old splitting.new }
-    ensures due { AreDueFor rest.now id splitting.new.nests }
 {
     let Rest::Inside(inner) = rest else {
         return;
@@ -105,9 +84,7 @@ fn note_rest(splitting: &mut Splitting, id: u16, rest: &Rest)
 }
 
 impl Units {
-    pub(crate) fn new(alloc: Global) -> Result<Units, AllocError>
-        ensures { IfOk result (λ units. units.looked.count ≡ 0) }
-    {
+    pub(crate) fn new(alloc: Global) -> Result<Units, AllocError> {
         let (pay, before) = two_tables(alloc, [0; 4], [0; 4])?;
         let lengths = Lengths::new(alloc)?;
         let waits = Pile::new(alloc)?;
@@ -121,21 +98,13 @@ impl Units {
     }
 
     /// Whether more may be looked at.
-    pub(crate) fn may_look(&self) -> bool
-        ensures few { result ≡ true → self.now.looked.count < LOOKS }
-        ensures many { result ≡ false → LOOKS ≤ self.now.looked.count }
-    {
+    pub(crate) fn may_look(&self) -> bool {
         self.looked.are_few()
     }
 
     /// Looks at the edges from the places of a piece, for longer ways.
     pub(crate) fn sweep(&mut self, order: &Order, piece: &Piece) -> bool
-        ensures pay { self.new.pay ≡ self.old.pay }
-        ensures counts { RisesBy self.old.looked.count (2 * (piece.now.end - piece.now.begin)) self.new.looked.count }
-        ensures grows { result ≡ true → SomeIsLonger self.old.lengths.ways self.new.lengths.ways }
-        ensures some { result ≡ true → piece.now.begin < piece.now.end }
-        ensures same { result ≡ false → self.new.lengths ≡ self.old.lengths }
-        ensures covered { result ≡ false → AreCoveredIn order.now piece.now self.new.lengths.links self.new.lengths.ways }
+        ensures { self.new.pay ≡ self.old.pay }
     {
         self.looked.sweep(&mut self.lengths, order, piece)
     }
@@ -143,13 +112,8 @@ impl Units {
     /// The same, and if none is longer, at those from each pc of the piece.
     pub(crate) fn sweep_all(&mut self, order: &Order, piece: &Piece) -> bool
         ensures pay { self.new.pay ≡ self.old.pay }
-        ensures counts { RisesBy self.old.looked.count (2 * (piece.now.end - piece.now.begin)) self.new.looked.count }
         ensures links { self.new.lengths.links ≡ self.old.lengths.links }
         ensures below { StayAtMost self.old.lengths.links self.old.lengths.ways self.new.lengths.ways }
-        ensures longer { AreLonger self.old.lengths.ways self.new.lengths.ways }
-        ensures some { result ≡ true → piece.now.begin < piece.now.end }
-        ensures covered { result ≡ false
-            → AreCovered self.new.lengths.links self.new.lengths.ways piece.now.begin piece.now.end }
     {
         self.looked.sweep_all(&mut self.lengths, order, piece)
     }
@@ -169,11 +133,6 @@ impl Units {
         ensures wanted { StayWanted graph.now.arcs self.old.pay self.new.pay }
         ensures more { HaveGrown self.old.pay self.new.pay }
         ensures others { (at k : ℕ) → at ≢ pc → unit_at self.new.pay at k ≡ unit_at self.old.pay at k }
-        ensures risen { HaveRisen self.old.pay self.new.pay self.old.waits self.new.waits }
-        ensures raised { (arc : Arc) (k : ℕ) → arc_at graph.now.arcs pc true ≡ Some arc → taken_from arc.counting ≡ Some k → k < 4
-            → unit ≤ unit_at self.new.pay pc k }
-        ensures within { StayWithinAt graph.now.arcs pc self.old.pay self.new.pay }
-        ensures looked { self.new.looked ≡ self.old.looked }
     {
         let Some(arc) = graph.arc(pc, true) else {
             return;
@@ -190,8 +149,6 @@ impl Units {
         ensures wanted { StayWanted graph.now.arcs self.old.pay self.new.pay }
         ensures more { HaveGrown self.old.pay self.new.pay }
         ensures stay { StayAtLoops graph.now.arcs jumps.now self.old.pay self.new.pay }
-        ensures carried { Carries graph.now (AreHeld graph.now.arcs jumps.now) self.old.pay self.new.pay self.old.waits }
-        ensures within { StayWithin graph.now.arcs self.old.pay self.new.pay }
     {
         go_back_free(graph, jumps, &mut self.pay, &mut self.waits);
     }
@@ -239,8 +196,7 @@ impl Units {
 
     /// Notes from where the counter of a nest is kept up to its LOOPs.
     fn note_before(&mut self, graph: &Graph, splitting: &Splitting, paying: &Paying)
-        ensures pay { self.new.pay ≡ self.old.pay }
-        ensures counts { RisesBy self.old.looked.count 4096 self.new.looked.count }
+        ensures { self.new.pay ≡ self.old.pay }
     {
         self.looked.clear(&mut self.before);
         let piece = &paying.nest.piece;
@@ -258,9 +214,6 @@ impl Units {
     /// one that is left to the next round are left to that, too. It ends at one of which both are noted already, and so of those around it.
     fn note_due(&self, splitting: &mut Splitting, paying: &Paying, round: u32, pc: u16)
         requires { pc < 4096 }
-        ensures jumps { splitting.new.jumps ≡ splitting.old.jumps }
-        ensures count { splitting.new.nests.count ≡ splitting.old.nests.count }
-        ensures nests { StayNests splitting.old splitting.new }
     {
         let mut left = false;
         let mut inner = true;
@@ -298,10 +251,6 @@ impl Units {
         to: u16,
     ) -> bool
         requires { to < 4096 }
-        ensures past { result ≡ false → PricePasses graph.now.arcs self.now.pay }
-        ensures jumps { splitting.new.jumps ≡ splitting.old.jumps }
-        ensures count { splitting.new.nests.count ≡ splitting.old.nests.count }
-        ensures nests { StayNests splitting.old splitting.new }
     {
         let mut lead = graph.first_into(to);
         for _ in 0..2 * u32::from(MOST_INSTRS) {
@@ -331,14 +280,7 @@ impl Units {
         paying: &Paying,
         round: u32,
     ) -> Result<(), Lack>
-        ensures wanted { StayWanted graph.now.arcs self.old.pay self.new.pay }
-        ensures carried { Carries graph.now NoneHeld self.old.pay self.new.pay self.old.waits }
-        ensures within { StayWithin graph.now.arcs self.old.pay self.new.pay }
-        ensures looked { self.old.looked.count ≤ self.new.looked.count }
-        ensures lack { IfErr result (IsUnpaid graph.now.arcs splitting.new self.new) }
-        ensures jumps { splitting.new.jumps ≡ splitting.old.jumps }
-        ensures count { splitting.new.nests.count ≡ splitting.old.nests.count }
-        ensures nests { StayNests splitting.old splitting.new }
+        ensures { StayWanted graph.now.arcs self.old.pay self.new.pay }
     {
         let mut fits = true;
         while let Some(pc) = self.looked.take(&mut self.waits) {
@@ -356,14 +298,7 @@ impl Units {
         paying: &Paying,
         round: u32,
     ) -> Result<(), Lack>
-        ensures wanted { StayWanted graph.now.arcs self.old.pay self.new.pay }
-        ensures carried { StayCarried graph.now self.old.pay self.new.pay }
-        ensures within { StayWithinLoops graph.now.arcs splitting.old.jumps pays self.old.pay self.new.pay }
-        ensures looked { self.old.looked.count ≤ self.new.looked.count }
-        ensures lack { IfErr result (IsUnpaid graph.now.arcs splitting.new self.new) }
-        ensures jumps { splitting.new.jumps ≡ splitting.old.jumps }
-        ensures count { splitting.new.nests.count ≡ splitting.old.nests.count }
-        ensures nests { StayNests splitting.old splitting.new }
+        ensures { StayWanted graph.now.arcs self.old.pay self.new.pay }
     {
         let piece = &paying.nest.piece;
         for x in piece.begin..piece.end {
@@ -384,15 +319,7 @@ impl Units {
         round: u32,
     ) -> Result<(), Lack>
         requires room { id < 4096 }
-        requires few { id < splitting.old.nests.count }
-        ensures wanted { StayWanted graph.now.arcs self.old.pay self.new.pay }
-        ensures carried { StayCarried graph.now self.old.pay self.new.pay }
-        ensures within { StayWithinLoops graph.now.arcs splitting.old.jumps pays self.old.pay self.new.pay }
-        ensures looked { self.old.looked.count ≤ self.new.looked.count }
-        ensures lack { IfErr result (IsUnpaid graph.now.arcs splitting.new self.new) }
-        ensures jumps { splitting.new.jumps ≡ splitting.old.jumps }
-        ensures count { splitting.new.nests.count ≡ splitting.old.nests.count }
-        ensures nests { StayNests splitting.old splitting.new }
+        ensures { StayWanted graph.now.arcs self.old.pay self.new.pay }
     {
         let mut nest = splitting.nests.at(id);
         nest.due = false;
@@ -417,14 +344,7 @@ impl Units {
         splitting: &mut Splitting,
         round: u32,
     ) -> Result<bool, Lack>
-        ensures wanted { StayWanted graph.now.arcs self.old.pay self.new.pay }
-        ensures carried { StayCarried graph.now self.old.pay self.new.pay }
-        ensures within { StayWithinLoops graph.now.arcs splitting.old.jumps pays self.old.pay self.new.pay }
-        ensures looked { self.old.looked.count ≤ self.new.looked.count }
-        ensures some { IfOk result (λ some. some ≡ true → min (self.old.looked.count + 1) 4294967295 ≤ self.new.looked.count) }
-        ensures lack { IfErr result (IsUnpaid graph.now.arcs splitting.new self.new) }
-        ensures jumps { splitting.new.jumps ≡ splitting.old.jumps }
-        ensures nests { StayNests splitting.old splitting.new }
+        ensures { StayWanted graph.now.arcs self.old.pay self.new.pay }
     {
         let mut some = false;
         for id in (0..splitting.nests.count().min(MOST_INSTRS)).rev() {
@@ -448,12 +368,7 @@ impl Units {
         splitting: &mut Splitting,
     ) -> Result<(), Lack>
         requires { start < 4096 }
-        ensures wanted { AreWanted graph.now.arcs self.new.pay }
-        ensures carried { AreLed graph.now → AreCarried graph.now.arcs NoneHeld self.new.pay }
-        ensures within { StayWithinLoops graph.now.arcs splitting.old.jumps pays [] self.new.pay }
-        ensures lack { IfErr result (IsUnpaid graph.now.arcs splitting.new self.new) }
-        ensures jumps { splitting.new.jumps ≡ splitting.old.jumps }
-        ensures nests { StayNests splitting.old splitting.new }
+        ensures { AreWanted graph.now.arcs self.new.pay }
     {
         self.looked = Looked::new();
         self.pay.fill_from(0, [0; 4]);

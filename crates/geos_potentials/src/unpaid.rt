@@ -1,7 +1,6 @@
 //! Ways round that no counter pays for.
 
-ghost use Rattle.std.specs.Prelude.{◌≡◌, ◌<◌, ℕ, true, Some, List, Bool, IfSome};
-ghost use Rattle.geos_potentials.specs.Cycles.{left_at, AreWaysIn};
+ghost use Rattle.std.specs.Prelude.{◌≡◌, ◌<◌, true, Some, List, Bool, IfSome};
 ghost use Rattle.geos_counters.specs.Idle.{LeadsUnpaid, IsUnpaidWay, GoesRound};
 
 use crate::cycles::has_unpaid_cycle;
@@ -14,7 +13,6 @@ use pc_tables::Table;
 pub(crate) fn lead_unpaid(body: &Body, pc: u16, branch: bool) -> Option<u16>
     requires { pc < body.now.end }
     ensures leads { IfSome result (LeadsUnpaid body.now.image.now body.now.r pc branch) }
-    ensures all { (to : ℕ) → LeadsUnpaid body.now.image.now body.now.r pc branch to → result ≡ Some to }
     ensures inside { IfSome result (λ to. to < 4096) }
 {
     if branch && is_loop(body.image.instr(pc).opcode) {
@@ -29,11 +27,7 @@ pub(crate) fn lead_unpaid(body: &Body, pc: u16, branch: bool) -> Option<u16>
 /// Notes where an edge leads, if it is a place into which edges are left, and no edge was noted there before.
 fn note(body: &Body, into: &mut Table<WaysIn>, pc: u16, branch: bool)
     requires { pc < body.now.end }
-    ensures left { (at : ℕ) → left_at into.new at ≡ left_at into.old at }
-    ensures came { AreWaysIn body.now.image.now body.now.r into.old into.new }
 {
-    // For what its law says.
-    into.lengths();
     if let Some(to) = lead_unpaid(body, pc, branch) {
         let WaysIn { left, came } = into.at(to);
         if left != 0 && came.is_none() {
@@ -44,10 +38,7 @@ fn note(body: &Body, into: &mut Table<WaysIn>, pc: u16, branch: bool)
 }
 
 /// Notes an edge into each place into which edges are left, from such a place.
-fn note_all(body: &Body, into: &mut Table<WaysIn>)
-    ensures left { (at : ℕ) → left_at into.new at ≡ left_at into.old at }
-    ensures came { AreWaysIn body.now.image.now body.now.r into.old into.new }
-{
+fn note_all(body: &Body, into: &mut Table<WaysIn>) {
     for pc in body.start..body.end {
         if into.at(pc).left != 0 {
             note(body, into, pc, false);

@@ -1,18 +1,14 @@
 use Rattle.std.proofs.Common.{sym, subst}
 use Rattle.std.specs.Prelude.{IfOk, IfSome}
 use Rattle.geos_potentials.specs.Halts.{IsInTheWay}
-use Rattle.control_graph.specs.Orders.{HasPlace}
 use Rattle.geos_potentials.specs.declared.search.Halt.{Halt}
-use Rattle.geos_potentials.proofs.Idling.{never-by}
 use Rattle.geos_diagnosis.specs.Tells.{TellsOfHalt}
 use Rattle.geos_diagnosis.proofs.diagnosis.cause_of_halt.Goals as goal
 
 pub first_cause-requires-clause-never : goal.first_cause-requires-clause-never
 first_cause-requires-clause-never c =
     let body = c.args.body.now in
-    let search = c.args.search.now in
-    let way = subst (IsInTheWay body.image.now body.r c.args.known.now search) c.in-Stuck.is c.requires.way in
-    never-by body.image.now body.r (HasPlace search.splitting.order c.in-Stuck.piece) way.0
+    (subst (IsInTheWay body.image.now body.r) c.in-Stuck.is c.requires.way).0
 
 pub returns-in-Stuck-clause-tells : goal.returns-in-Stuck-clause-tells
 returns-in-Stuck-clause-tells c =

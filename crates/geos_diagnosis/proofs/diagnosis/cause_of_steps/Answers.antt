@@ -29,8 +29,8 @@ returns-in-NoLoop-clause-holds c =
 pub returns-in-NoLoop-clause-tells : goal.returns-in-NoLoop-clause-tells
 returns-in-NoLoop-clause-tells c = subst (λ (reason : Reason). TellsOfReason reason (NoLoop c.in-NoLoop.back)) (sym c.in-NoLoop.is) refl
 
-pub cause_of_loops-requires-clause-halts : goal.cause_of_loops-requires-clause-halts
-cause_of_loops-requires-clause-halts c =
+pub cause_of_loops-requires-clause-way : goal.cause_of_loops-requires-clause-way
+cause_of_loops-requires-clause-way c =
     let body = c.args.body.now in
     subst (IsReason body.image.now body.r c.args.known.now) c.in-InTheWay.is c.requires.reason
 

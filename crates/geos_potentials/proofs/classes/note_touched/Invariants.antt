@@ -1,6 +1,7 @@
-use Rattle.geos_potentials.proofs.Untouched.{AreTouchedSoFar}
+use Rattle.geos_code.specs.Code.{IsPcOf}
+use Rattle.geos_potentials.specs.Spreads.{ComeBehind, ForgetsIt}
 use Rattle.geos_potentials.proofs.classes.note_touched.Given as goal
 
--- what calls before pc touch is noted, and nothing else
+-- what is noted comes from behind calls that touch it
 abbrev pub invariant-loop-pc : goal.invariant-loop-pc
-invariant-loop-pc l = AreTouchedSoFar l.body.image.now l.body.r l.graph.arcs l.body.start l.pc l.touched l.waits
+invariant-loop-pc l = ComeBehind l.graph.arcs l.body.start (IsPcOf l.body.image.now l.body.r) ForgetsIt l.touched

@@ -1,12 +1,9 @@
-use Rattle.std.proofs.Common.{◌≡◌, ◌≤◌, ◌<◌, ℕ, Bool, Some}
-use Rattle.std.specs.Prelude.{slice_get}
-use Rattle.geos_image.specs.declared.point.Point.{Point}
+use Rattle.std.proofs.Common.{◌≡◌, ◌≤◌, ◌<◌, ℕ, Bool}
 use Rattle.geos_code.specs.Code.{IsPcOf}
-use Rattle.geos_potentials.specs.Count.{return_steps}
 use Rattle.geos_potentials.specs.Least.{PayEnds, NoneOutside, IsLookedAt, link_at, steps_at}
 use Rattle.geos_potentials.proofs.constants.begin.Given as goal
 
--- the ways from the instructions before pc are ends, and cover what returns take; no edge from outside of the routine is looked at, and each one from before pc is
+-- the ways from the instructions before pc are ends; no edge from outside of the routine is looked at, and each one from before pc is
 abbrev pub invariant-loop-pc : goal.invariant-loop-pc
 invariant-loop-pc l = record {
   outside : NoneOutside l.body.image.now l.body.r l.units.lengths.links;
@@ -15,6 +12,4 @@ invariant-loop-pc l = record {
   looked : (pc : ℕ) (branch : Bool) → IsPcOf l.body.image.now l.body.r pc → pc < l.pc
       → IsLookedAt l.graph.arcs l.splitting.jumps l.units.pay pc branch (link_at l.units.lengths.links pc branch);
   pay : l.units.pay ≡ l.fn.units.pay;
-  returns : (pc : ℕ) (point : Point) → IsPcOf l.body.image.now l.body.r pc → pc < l.pc → slice_get l.body.image.now.points pc ≡ Some point
-      → return_steps point.instr ≤ steps_at l.units.lengths.ways pc;
 }

@@ -1,4 +1,4 @@
-use Rattle.std.proofs.Common.{ℕ, List, Option, sym, subst, arith}
+use Rattle.std.proofs.Common.{ℕ, List, Option, sym, subst}
 use Rattle.geos_potentials.specs.Least.{PayAll, AreLookedAt}
 use Rattle.geos_potentials.specs.declared.lengths.Link.{Link}
 use Rattle.geos_potentials.proofs.constants.find_constants.Goals as goal
@@ -15,7 +15,3 @@ returns-clause-looked c =
     let jumps = c.args.splitting.now.jumps in
     subst (λ (pay : List (List ℕ)). AreLookedAt image r arcs jumps pay c.lengthen.new.units.lengths.links) (sym c.lengthen.ensures.pay)
     (subst (AreLookedAt image r arcs jumps c.begin.new.units.pay) (sym c.lengthen.ensures.links) c.begin.ensures.looked)
-
-pub returns-clause-returns : goal.returns-clause-returns
-returns-clause-returns c = λ pc point within there.
-    (let less = c.begin.ensures.returns pc point within there in let more = c.lengthen.ensures.longer pc in omega (arith, less, more))

@@ -13,7 +13,3 @@ returns-then-is_left_out-clause-stay c = λ pc k arc read takes busy. elim (case
       absurd (false≢true (sym there ∙ here))
   | inr ne ↦ c.free_loop.ensures.others pc k ne
 ]
-
-pub returns-then-is_left_out-clause-within : goal.returns-then-is_left_out-clause-within
-returns-then-is_left_out-clause-within c = λ law base passes carried holds before.
-    c.free_loop.ensures.within law base (holds c.args.pc (sym c.is_left_out.ensures ∙ c.if-is_left_out.true)) before

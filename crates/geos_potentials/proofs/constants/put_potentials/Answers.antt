@@ -1,9 +1,6 @@
-use Rattle.std.proofs.Common.{ℕ, ◌+◌, [], length, refl, sym, ap, ◌∙◌, arith, inl, inr}
-use Rattle.std.specs.Prelude.{slice_index_or}
-use Rattle.std.proofs.lemmas.Bool.{cases_eq}
+use Rattle.std.proofs.Common.{◌+◌, [], length, refl, ap, ◌∙◌, arith}
 use Rattle.std.proofs.lemmas.List.{length-set}
 use Rattle.geos_image.specs.declared.potential.Potential.{Potential}
-use Rattle.geos_potentials.specs.Least.{steps_at}
 use Rattle.geos_potentials.specs.Numbers.{numbers_of}
 use Rattle.geos_potentials.proofs.Numbered.{numbers-set}
 use Rattle.geos_potentials.proofs.Counts.{stays-refl, stays-set}
@@ -14,7 +11,6 @@ pub loop-pc-init : goal.loop-pc-init
 loop-pc-init c = (let body = c.args.body.now in (
   c.lengths.ensures,
   stays-refl body.end (numbers_of c.args.potentials.now),
-  λ pc within lt. absurd (omega (arith, within.above, body.begins)),
   λ pc within lt. absurd (omega (arith, within.above, body.begins)),
 ))
 
@@ -31,19 +27,4 @@ loop-pc-preserved c =
       rw c.set.ensures (put-more body.image.now body.r c.args.units.now.pay c.args.units.now.lengths.ways c.loop-pc.potentials p
           (p + 1) next refl (omega (arith, few, c.loop-pc-test.true, body.room, body.short)) c.steps-length.ensures
           (c.at.ensures []) c.loop-pc.invariant.2),
-      λ pc within lt. elim (cases_eq pc p) [
-        | inl same ↦ (
-          (let is = ap (steps_at c.args.units.now.lengths.ways) same in omega (arith, is, c.steps-length.ensures, c.if-from-length.false, c.from.ensures)),
-          ap (λ (n : ℕ). length (slice_index_or c.args.units.now.pay n [])) same ∙ ap length (sym (c.at.ensures [])) ∙ omega arith,
-        )
-        | inr ne ↦ c.loop-pc.invariant.3 pc within (omega (arith, lt, ne))
-      ],
     )
-
-pub returns-clause-says : goal.returns-clause-says
-returns-clause-says c = λ is pc within. (let body = c.args.body.now in let below = within.below in
-    c.loop-pc.invariant.3 pc within (omega (arith, below, body.ends, c.loop-pc-test.false))).0
-
-pub returns-clause-four : goal.returns-clause-four
-returns-clause-four c = λ pc within. (let body = c.args.body.now in let below = within.below in
-    c.loop-pc.invariant.3 pc within (omega (arith, below, body.ends, c.loop-pc-test.false))).1

@@ -1,15 +1,13 @@
-use Rattle.std.proofs.Common.{◌≡◌, sym, ap, ◌∙◌}
+use Rattle.std.proofs.Common.{◌≡◌, ap, ◌∙◌}
 use Rattle.geos_image.specs.declared.instr.Instr.{Instr}
 use Rattle.geos_verify.proofs.Places.{if_some}
 use Rattle.std.specs.Prelude.{slice_get}
 use Rattle.geos_potentials.specs.Arcs.{counting_of}
 use Rattle.geos_code.specs.Known.{row_of, known_at}
-use Rattle.control_graph.specs.Arcs.{taken_from}
-use Rattle.geos_potentials.proofs.Bounding.{taken-few}
 use Rattle.geos_potentials.proofs.counting.arc_of.Goals as goal
 
-pub returns-clause-arc : goal.returns-clause-arc
-returns-clause-arc c =
+pub returns : goal.returns
+returns c =
     let body = c.args.body.now in
     let image = body.image.now in
     let leads = c.in_ok-edge.ensures.leads in
@@ -22,9 +20,3 @@ returns-clause-arc c =
       steps = c.called_at.ensures;
       counting = c.counting_over.ensures ∙ ap (λ (i : Instr). counting_of row c.args.touched.now i i.opcode c.args.branch) same;
     }
-
-pub returns-clause-takes : goal.returns-clause-takes
-returns-clause-takes c = λ k takes.
-    let i = c.instr.result.now in
-    let row = row_of (known_at c.args.known.now c.args.pc) in
-    taken-few row c.args.touched.now i i.opcode c.args.branch k c.instr.ensures.fields (sym (ap taken_from c.counting_over.ensures) ∙ takes)

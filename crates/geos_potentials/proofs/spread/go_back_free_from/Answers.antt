@@ -1,51 +1,32 @@
-use Rattle.std.proofs.Common.{arith, inl, inr, subst}
-use Rattle.geos_potentials.specs.Carried.{AreHeld}
-use Rattle.geos_potentials.proofs.Carrying.{ArePending, step-pending, end-pending}
+use Rattle.std.proofs.Common.{arith}
 use Rattle.geos_potentials.proofs.Growing.{grown-on, stay-on}
 use Rattle.geos_potentials.proofs.spread.go_back_free_from.Goals as goal
 
 pub loop-preserved : goal.loop-preserved
 loop-preserved c =
     let arcs = c.args.graph.now.arcs in
-    let behind = c.args.graph.now.leads.behind in
     let jumps = c.args.jumps.now in record {
       wanted = λ before. c.go_back_free_over.ensures.wanted (c.loop.invariant.wanted before);
-      within = λ law base passes carried before. c.go_back_free_over.ensures.within law base passes carried (c.loop.invariant.within law base passes carried before);
       more = grown-on c.args.spread.now c.loop.spread c.go_back_free_over.new.spread c.loop.invariant.more c.go_back_free_over.ensures.more;
       stay = stay-on arcs jumps c.args.spread.now c.loop.spread c.go_back_free_over.new.spread c.loop.invariant.stay
           c.go_back_free_over.ensures.stay;
-      carried = λ led before.
-          step-pending arcs behind (AreHeld arcs jumps) c.loop.spread c.go_back_free_over.new.spread c.loop.waits c.go_back_free_over.new.waits
-          c.args.to c.loop.counter c.in-Some.edge c.next_into-lead.result c.go_back_free_over.ensures.carried c.next_into-lead.ensures
-          (subst (ArePending arcs behind (AreHeld arcs jumps) c.loop.spread c.loop.waits c.args.to c.loop.counter) c.in-Some.is
-          (c.loop.invariant.carried led before));
       work = omega (arith, c.go_back_free_over.ensures.work, c.loop.invariant.work);
     }
 
 pub returns-in_default : goal.returns-in_default
 returns-in_default c =
-    let arcs = c.args.graph.now.arcs in
     let inv = c.loop.invariant in record {
       wanted = inv.wanted;
       more = inv.more;
-      within = inv.within;
       stay = inv.stay;
-      carried = λ led before.
-          end-pending arcs c.args.graph.now.leads.behind (AreHeld arcs c.args.jumps.now) c.loop.spread c.loop.waits c.args.to c.loop.counter
-          c.loop.lead (inl c.in_default.is) (inv.carried led before);
       work = inv.work;
     }
 
 pub returns : goal.returns
 returns c =
-    let arcs = c.args.graph.now.arcs in
     let inv = c.loop.invariant in record {
       wanted = inv.wanted;
       more = inv.more;
-      within = inv.within;
       stay = inv.stay;
-      carried = λ led before.
-          end-pending arcs c.args.graph.now.leads.behind (AreHeld arcs c.args.jumps.now) c.loop.spread c.loop.waits c.args.to c.loop.counter
-          c.loop.lead (inr (omega (arith, c.loop-test.false))) (inv.carried led before);
       work = inv.work;
     }

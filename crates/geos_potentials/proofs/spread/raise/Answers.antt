@@ -1,5 +1,4 @@
-use Rattle.std.proofs.Common.{◌≡◌, ◌<◌, [], length, refl, arith, rules, inr}
-use Rattle.geos_potentials.proofs.Carrying.{raised-risen}
+use Rattle.std.proofs.Common.{◌≡◌, ◌<◌, [], length, refl, arith, rules}
 use Rattle.geos_potentials.proofs.Demand.{raised-set, raised-same}
 use Rattle.geos_potentials.proofs.Growing.{less-work, differ}
 use Rattle.geos_potentials.proofs.spread.raise.Goals as goal
@@ -23,8 +22,3 @@ returns-else-ne-clause-raised c =
     let equal : c.greatest-next.result ≡ c.get.result.now = search rules in
     raised-same c.args.spread.now c.args.spread.now c.args.pc c.get.result.now c.args.numbers.now c.greatest-next.result
     (c.get.ensures []) c.greatest-next.ensures.value c.greatest-next.ensures.four equal refl
-
-pub returns-then-ne-clause-risen : goal.returns-then-ne-clause-risen
-returns-then-ne-clause-risen c =
-    raised-risen c.args.spread.now c.set.new.self c.args.pc c.args.numbers.now c.args.waits.now c.put.new.self (returns-then-ne-clause-raised c)
-    c.put.ensures.others (inr c.put.ensures.waits)

@@ -1,6 +1,5 @@
 use Rattle.std.proofs.Common.{◌≡◌}
-use Rattle.geos_potentials.specs.Looks.{RisesBy}
 use Rattle.geos_potentials.proofs.units.Units.note_before.Given as goal
 
 abbrev pub invariant-loop-x : goal.invariant-loop-x
-invariant-loop-x l = (l.self.pay ≡ l.fn.self.pay) × RisesBy l.fn.self.looked.count 4096 l.self.looked.count
+invariant-loop-x l = l.self.pay ≡ l.fn.self.pay
