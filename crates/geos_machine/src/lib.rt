@@ -14,7 +14,9 @@ mod outcome;
 mod step;
 mod trace;
 mod traced;
+mod watch;
 
 pub use machine::{Machine, admits};
 pub use outcome::Outcome;
 pub use trace::{Left, Noted, Trace};
+pub use watch::{Unwatched, Watch};

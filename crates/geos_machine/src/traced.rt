@@ -18,6 +18,7 @@ use crate::machine::Machine;
 use crate::outcome::Outcome;
 use crate::step::{Goes, step};
 use crate::trace::{Left, Noted, Trace, left_by};
+use crate::watch::{Unwatched, Watch};
 use arrayvec::ArrayVec;
 use geos_kernel::Kernel;
 use geos_verify::Checked;
@@ -38,8 +39,6 @@ impl Machine {
     }
 
     /// Runs a routine as `run` does, and notes its steps.
-    // By itself, and apart from `run`, whose loop notes nothing.
-    #[inline(never)]
     pub fn trace<D: Device + Drop>(
         &mut self,
         checked: &Checked,
@@ -48,6 +47,44 @@ impl Machine {
         handles: &[u16; 4],
         kernel: &mut Kernel<D>,
         trace: &mut Trace,
+    ) -> Outcome
+        requires admitted { admits checked.now routine words.now ≡ true }
+        requires lent { Lends kernel.old.core (entry_slots checked.now routine) handles.now }
+        requires empty { IsEmpty trace.old }
+        // The model's run is one as `run` promises it, and what is noted are its steps.
+        ensures ran { (f : VmFile) → IsFileOf (D.medium.honest kernel.old.device) kernel.old.core f
+            → Traced (D.medium.honest kernel.old.device) (Throughout D.medium kernel.old.device kernel.new.device)
+            checked.now routine words.now handles.now kernel.old.core kernel.new.core result trace.old trace.new f }
+        // The rest is as of `run`.
+        ensures budget { IfSome (slice_get checked.now.routines routine) (λ r. result.steps ≤ r.budget) }
+        ensures sees { SeesDevice D.medium kernel.old × SeesDevice D.medium kernel.new }
+        ensures locks { (name : Name) → locks_of kernel.new.core.blocks (slot_of name) ≡ locks_of kernel.old.core.blocks (slot_of name) }
+        ensures honest { D.medium.honest kernel.new.device ↔ D.medium.honest kernel.old.device }
+        ensures steadily { Steadily D.medium (vm_file_of kernel.old) (vm_file_of kernel.new) }
+    {
+        self.trace_watched(
+            checked,
+            routine,
+            words,
+            handles,
+            kernel,
+            trace,
+            &mut Unwatched,
+        )
+    }
+
+    /// Runs a routine as `trace` does. A watcher sees the machine and the kernel before each step.
+    // By itself, and apart from `run`, whose loop notes nothing.
+    #[inline(never)]
+    pub fn trace_watched<D: Device + Drop, W: Watch>(
+        &mut self,
+        checked: &Checked,
+        routine: u16,
+        words: &[u16; 8],
+        handles: &[u16; 4],
+        kernel: &mut Kernel<D>,
+        trace: &mut Trace,
+        watcher: &mut W,
     ) -> Outcome
         requires admitted { admits checked.now routine words.now ≡ true }
         requires lent { Lends kernel.old.core (entry_slots checked.now routine) handles.now }
@@ -72,6 +109,7 @@ impl Machine {
         let mut returns: ArrayVec<u16, 32> = ArrayVec::new();
         'run: loop {
             left -= 1;
+            watcher.sees(self, pc, kernel);
             let instr = image.instr(pc);
             let goes = step(self, kernel, instr, head_of(instr));
             trace.note(self.noted(pc, left_by(&goes)));

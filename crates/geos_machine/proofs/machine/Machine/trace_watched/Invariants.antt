@@ -5,7 +5,7 @@ use Rattle.geos_kernel.specs.Files.{vm_file_of}
 use Rattle.geos_kernel.specs.View.{IsFileOf}
 use Rattle.geos_machine.specs.Runs.{Throughout}
 use Rattle.geos_machine.proofs.Traces.{TracedSoFar}
-use Rattle.geos_machine.proofs.machine.Machine.trace.Given as goal
+use Rattle.geos_machine.proofs.machine.Machine.trace_watched.Given as goal
 
 abbrev pub invariant-run : goal.invariant-run
 invariant-run g l =

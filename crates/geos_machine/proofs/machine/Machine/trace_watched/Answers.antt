@@ -16,9 +16,9 @@ use Rattle.geos_machine.proofs.Stops.{stops-first, stops-on}
 use Rattle.geos_machine.proofs.Going.{Origin, origin_of, none-left, so_far-place, so_far-ready, so_far-owes, so_far-routine, so_far-along, so_far-past, so_far-further, so_far-to, so_far-back, so_far-calls, so_far-room, so_far-callee, so_far-returns, so_far-done}
 use Rattle.geos_machine.proofs.Starting.{so_far-start}
 use Rattle.geos_machine.proofs.Traces.{count-room, note_of, traced-start, traced-on, traced-to, traced-calls, traced-returns, traced-done}
-use Rattle.geos_machine.proofs.machine.Machine.trace.Given as given
-use Rattle.geos_machine.proofs.machine.Machine.trace.Goals as goal
-use Rattle.geos_machine.proofs.machine.Machine.trace.Goals.{At-run}
+use Rattle.geos_machine.proofs.machine.Machine.trace_watched.Given as given
+use Rattle.geos_machine.proofs.machine.Machine.trace_watched.Goals as goal
+use Rattle.geos_machine.proofs.machine.Machine.trace_watched.Goals.{At-run}
 
 -- what the run began with, beside a VM file that the model may know
 abbrev origin : (g : given.Over) → At-run g → VmFile → Origin
