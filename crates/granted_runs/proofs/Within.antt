@@ -1,19 +1,18 @@
--- A run of an image that does only what was granted.
+-- What a run of a routine leaves as it was.
 use Rattle.std.proofs.Common.{◌≡◌, ℕ, zero, suc, ◌≤◌, Bool, true, false, None, Some, List, [], ◌∷◌, refl, sym, ap, subst, ◌∙◌, true≢false}
-use Rattle.std.specs.Prelude.{nat_le, slice_index_or}
-use Rattle.std.proofs.lemmas.Bool.{and_parts}
+use Rattle.std.specs.Prelude.{slice_index_or}
 use Rattle.geos_terms.specs.declared.name.Name.{Name}
 use Rattle.geos_terms.specs.declared.name.Owner.TheVariants as owner
 use Rattle.geos_terms.specs.Names.{mem, vm}
 use Rattle.geos_calls.specs.Effects.{Choice}
 use Rattle.geos_calls.specs.Legal.{IsMemory}
+use Rattle.geos_calls.specs.Memory.{Memory}
 use Rattle.geos_calls.specs.VmFile.{VmFile}
 use Rattle.vm_file.specs.Device.{Medium}
 use Rattle.vm_blocks.specs.Found.{OpensAsKept}
 use Rattle.geos_image.specs.declared.row.SlotState.{SlotState}
 use Rattle.geos_image.specs.declared.row.SlotState.TheVariants.{Empty, Mem, Vm, Db}
 use Rattle.geos_image.specs.Parts.{Parts}
-use Rattle.geos_verify.specs.Lists.{all2}
 use Rattle.geos_verify.specs.Rules.{IsChecked}
 use Rattle.geos_entry.specs.Entry.{admits, entry_slots}
 use Rattle.geos_kernel.specs.Kernel.{IsChosen}
@@ -24,17 +23,17 @@ use Rattle.geos_semantics.specs.Meets.{Base, name_held}
 use Rattle.geos_semantics.specs.Lending.{given, given_slots, AreLent, base_of}
 use Rattle.geos_semantics.proofs.Ends.{begins-good}
 use Rattle.geos_machine.specs.declared.outcome.Outcome.{Outcome}
-use Rattle.geos_machine.specs.Runs.{RanWith, Throughout, OpensAsOneOf, begin, kept_along}
+use Rattle.geos_machine.specs.Runs.{Ran, RanWith, Throughout, OpensAsOneOf, begin, kept_along}
 use Rattle.geos_machine.proofs.Beginning.{begins, called}
 use Rattle.geos_grants.specs.declared.effect.Effect.{Effect}
 use Rattle.geos_grants.specs.declared.effect.Effect.TheVariants as effect
 use Rattle.geos_grants.specs.declared.effects.Effects.{Effects}
-use Rattle.geos_grants.specs.Grants.{DoesOnly, IsGranted}
+use Rattle.geos_grants.specs.Grants.{DoesOnly}
 use Rattle.geos_grants.specs.Routines.{has_effect}
 use Rattle.geos_grants.specs.Sets.{has}
-use Rattle.granted_runs.specs.Keeps.{IsDenied, RanWithin}
+use Rattle.granted_runs.specs.Keeps.{GivesNothing, IsDenied, RanWithin, SparesDenied}
 use Rattle.granted_runs.proofs.Steps.{keeps-more}
-use Rattle.granted_runs.proofs.Runs.{EndKeeps, Lacks, each-as, run-keeps, opens-kept, throughout-more}
+use Rattle.granted_runs.proofs.Runs.{EndKeeps, Lacks, run-keeps, opens-kept, throughout-more}
 
 -- a routine that does only what is granted lacks what is not
 denied-lacks : (image : Parts) (grants : Effects) (r : ℕ) → DoesOnly image grants r → (of : Effect) → IsDenied grants of
@@ -61,31 +60,47 @@ none-taken (state ∷ states) [] h a e = absurd cc
 none-taken (state ∷ states) (k ∷ handles) h zero e = given-vm state k h e
 none-taken (state ∷ states) (k ∷ handles) h (suc a) e = none-taken states handles h a e
 
-pub ran-within : {D : Type 0} (medium : Medium D) (first last : D) (image : Parts) (checked : IsChecked image) (grants : Effects)
-    (r : ℕ) (words handles : List ℕ) (old new : KernelState) (outcome : Outcome) (f : VmFile) (honest : Type 0)
-    → IsMemory (memory_of old f) → AreLent (entry_slots image r) handles (memory_of old f) → Each (λ n. n ≤ 65535) words
-    → admits image r words ≡ true → IsGranted image grants
-    → RanWith honest (Throughout medium first last) image r words handles old new outcome f
-    → RanWithin honest (Throughout medium first last) image grants r words handles old new outcome f
-ran-within medium first last image checked grants r words handles old new outcome f honest legal lends small admitted granted R =
-    let memory = memory_of old f in
+-- what holds of all holds of each, from the same premise
+each-from : {X : Type 0} (P : X → Type 0) (H : Type 0) (xs : List X) → (H → Each P xs) → Each (λ x. H → P x) xs
+each-from P H [] all = tt
+each-from P H (x ∷ xs) all = ((λ h. (all h).0), each-from P H xs (λ h. (all h).1))
+
+pub ran-spares : (image : Parts) (checked : IsChecked image) (r : ℕ) (words handles : List ℕ) (memory after : Memory) (outcome : Outcome)
+    (allowed : Choice → Type 0)
+    → IsMemory memory → AreLent (entry_slots image r) handles memory → Each (λ n. n ≤ 65535) words → admits image r words ≡ true
+    → (R : Ran allowed image r words handles memory after outcome) → SparesDenied image r words handles memory R.choices R.last
+ran-spares image checked r words handles memory after outcome allowed legal lends small admitted R grants only =
     let start : State = begin image r words handles memory in
     let base : Base = base_of memory (given_slots (entry_slots image r) handles) in
     let found = called image r words admitted in
-    let public = (and_parts found.0.public (all2 nat_le words found.0.entry.bounds) found.2).0 in
-    let lacks = denied-lacks image grants r (granted r found.0 found.1 public) in
+    let lacks = denied-lacks image grants r only in
+    let honest = GivesNothing R.choices in
     let B = begins image checked.0 checked.1 r words handles memory legal lends small found.0 found.1 found.2 in
     let G = begins-good image checked.0 checked.1 base r found.0 start B in
-    let given = each-as (IsChosen honest old new) (λ (choice : Choice). honest → choice.given ≡ []) (λ choice chosen. chosen.given)
-    R.ran.choices R.ran.chosen in
-    let K = run-keeps image checked base r found.0 found.1 B.room honest R.ran.choices 0 start G.0
+    let given = each-from (λ (choice : Choice). choice.given ≡ []) honest R.choices (λ h. h) in
+    let K = run-keeps image checked base r found.0 found.1 B.room honest R.choices 0 start G.0
     (record { runs = λ of h. h; waits = tt; untaken = λ without h out a e. none-taken (entry_slots image r) handles h a e }) given in
-    let kept = subst (EndKeeps image checked base r found.0 found.1 B.room honest start) R.ran.ran K.0 in
+    let kept = subst (EndKeeps image checked base r found.0 found.1 B.room honest start) R.ran K.0 in
+    record {
+      keeps = keeps-more (Lacks image checked base r found.0 found.1 B.room honest) (IsDenied grants) honest base
+          start R.last lacks kept;
+      kept = λ without. K.1 (lacks effect.Commits without);
+    }
+
+pub ran-within : {D : Type 0} (medium : Medium D) (first last : D) (image : Parts) (checked : IsChecked image)
+    (r : ℕ) (words handles : List ℕ) (old new : KernelState) (outcome : Outcome) (f : VmFile) (honest : Type 0)
+    → IsMemory (memory_of old f) → AreLent (entry_slots image r) handles (memory_of old f) → Each (λ n. n ≤ 65535) words
+    → admits image r words ≡ true
+    → RanWith honest (Throughout medium first last) image r words handles old new outcome f
+    → RanWithin honest (Throughout medium first last) image r words handles old new outcome f
+ran-within medium first last image checked r words handles old new outcome f honest legal lends small admitted R =
+    let start : State = begin image r words handles (memory_of old f) in
+    let spares = ran-spares image checked r words handles (memory_of old f) (memory_of new R.file) outcome (IsChosen honest old new) legal lends
+    small admitted R.ran in
     record {
       ran = R;
-      keeps = keeps-more (Lacks image checked base r found.0 found.1 B.room honest) (IsDenied grants) honest base
-          start R.ran.last lacks kept;
-      stops = λ without good.
+      spares = spares;
+      stops = λ grants only without good.
           throughout-more medium first last (OpensAsOneOf (kept_along image R.ran.choices start)) (OpensAsKept f.kept)
-          (λ c opens. opens-kept f.kept (kept_along image R.ran.choices start) c (K.1 (lacks effect.Commits without)) opens) (R.stops good);
+          (λ c opens. opens-kept f.kept (kept_along image R.ran.choices start) c ((spares grants only).kept without) opens) (R.stops good);
     }

@@ -1,22 +1,25 @@
 -- What a run leaves as it was, by the effects that its routine lacks.
-use Rattle.std.specs.Prelude.{◌≡◌, ◌<◌, ◌⊎◌, ℕ, false, List, Option, Some, None, option_map, slice_index_or}
+use Rattle.std.specs.Prelude.{◌≡◌, ◌<◌, ◌⊎◌, ℕ, false, List, [], Option, Some, None, option_map, slice_index_or}
 use Rattle.geos_terms.specs.declared.name.Name.{Name}
 use Rattle.geos_terms.specs.Names.{mem, vm}
 use Rattle.vm_blocks.specs.Found.{OpensAsKept}
 use Rattle.geos_calls.specs.Directories.{KeptBlock, kept_block}
 use Rattle.geos_calls.specs.Memory.{Memory, at_handle, listed_at}
-use Rattle.geos_calls.specs.VmFile.{VmFile}
+use Rattle.geos_calls.specs.VmFile.{Kept, VmFile}
+use Rattle.geos_calls.specs.Effects.{Choice}
 use Rattle.geos_image.specs.Parts.{Parts}
 use Rattle.geos_entry.specs.Entry.{entry_slots}
 use Rattle.geos_kernel.specs.View.{KernelState, memory_of}
+use Rattle.geos_semantics.specs.Lists.{Each}
 use Rattle.geos_semantics.specs.State.{State}
 use Rattle.geos_semantics.specs.Lending.{given_slots, base_of}
 use Rattle.geos_semantics.specs.Meets.{Base}
 use Rattle.geos_machine.specs.declared.outcome.Outcome.{Outcome}
-use Rattle.geos_machine.specs.Runs.{Within, RanWith, begin}
+use Rattle.geos_machine.specs.Runs.{Within, RanWith, begin, kept_along}
 use Rattle.geos_grants.specs.declared.effect.Effect.{Effect}
 use Rattle.geos_grants.specs.declared.effect.Effect.TheVariants as effect
 use Rattle.geos_grants.specs.declared.effects.Effects.{Effects}
+use Rattle.geos_grants.specs.Grants.{DoesOnly}
 use Rattle.geos_grants.specs.Sets.{has}
 
 -- what a commit would write of the block of the VM file with this handle: its user ID, its chunks and its size; nothing where there is none
@@ -55,10 +58,27 @@ IsDenied grants effect = has grants effect ≡ false
 abbrev pub others_of : Parts → ℕ → List ℕ → Memory → Base
 others_of image r handles memory = base_of memory (given_slots (entry_slots image r) handles)
 
--- the model's run took a kernel to another; what was not granted is as before; and, without commits, a stop at any moment of the run leaves
+-- no choice gives blocks other bytes than those that were written
+abbrev pub GivesNothing : List Choice → Type 0
+GivesNothing choices = Each (λ (choice : Choice). choice.given ≡ []) choices
+
+-- a run of routine r from this memory to this last state leaves what is not granted as it was; and without commits, the device has what it
+-- had in each state of it
+pub record Spares (image : Parts) (r : ℕ) (words handles : List ℕ) (memory : Memory) (choices : List Choice) (last : State) (grants : Effects)
+    : Type 0 where
+  pub keeps : Keeps (IsDenied grants) (GivesNothing choices) (others_of image r handles memory) (begin image r words handles memory) last
+  pub kept : IsDenied grants effect.Commits
+      → Each (λ (kept : Kept). kept ≡ memory.file.kept) (kept_along image choices (begin image r words handles memory))
+
+-- so it does whatever is granted, if the routine does only that
+abbrev pub SparesDenied : Parts → ℕ → List ℕ → List ℕ → Memory → List Choice → State → Type 0
+SparesDenied image r words handles memory choices last = (grants : Effects) → DoesOnly image grants r
+    → Spares image r words handles memory choices last grants
+
+-- the model's run took a kernel to another; what is not granted is as before; and, without commits, a stop at any moment of the run leaves
 -- what the file had as kept
-pub record RanWithin (honest : Type 0) (within : Within) (image : Parts) (grants : Effects) (r : ℕ) (words handles : List ℕ)
+pub record RanWithin (honest : Type 0) (within : Within) (image : Parts) (r : ℕ) (words handles : List ℕ)
     (old new : KernelState) (outcome : Outcome) (f : VmFile) : Type 0 where
   pub ran : RanWith honest within image r words handles old new outcome f
-  pub keeps : Keeps (IsDenied grants) honest (others_of image r handles (memory_of old f)) (begin image r words handles (memory_of old f)) ran.ran.last
-  pub stops : IsDenied grants effect.Commits → honest → within (OpensAsKept f.kept)
+  pub spares : SparesDenied image r words handles (memory_of old f) ran.ran.choices ran.ran.last
+  pub stops : (grants : Effects) → DoesOnly image grants r → IsDenied grants effect.Commits → honest → within (OpensAsKept f.kept)

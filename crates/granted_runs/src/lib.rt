@@ -1,8 +1,8 @@
-//! Runs of images that do only what was granted.
+//! Runs of routines that do only what was granted.
 //!
 //! `specs/Keeps.antt` says what a run leaves as it was.
 #![tactic(auto)]
 
 mod run;
 
-pub use run::run_granted;
+pub use run::{RoutineCall, run_granted};

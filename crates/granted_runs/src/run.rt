@@ -1,4 +1,4 @@
-//! Runs that do only what was granted.
+//! Runs that leave what is not granted as it was.
 
 ghost use Rattle.std.specs.Prelude.{◌≡◌, ◌≤◌, true};
 ghost use Rattle.geos_calls.specs.VmFile.{VmFile};
@@ -9,9 +9,9 @@ ghost use Rattle.geos_machine.specs.Runs.{Gave, Throughout};
 ghost use Rattle.geos_semantics.specs.Lists.{Each};
 ghost use Rattle.granted_runs.specs.Keeps.{RanWithin};
 
-use geos_grants::Granted;
 use geos_kernel::Kernel;
 use geos_machine::{Machine, Outcome};
+use geos_verify::Checked;
 use vm_file::Device;
 
 /// The same words, each of which is at most 65,535.
@@ -23,8 +23,21 @@ fn copied(words: &[u16; 8]) -> [u16; 8]
     [w0, w1, w2, w3, w4, w5, w6, w7]
 }
 
-/// Runs a routine as `Machine::run_in_place` does, of an image that does only what was granted. What was not granted is as before,
-/// whatever the routine is, and whatever is refused:
+/// A call of a routine of an accepted image.
+#[derive(Clone, Copy)]
+pub struct RoutineCall<'c> {
+    /// The image.
+    pub checked: &'c Checked,
+    /// The index of the routine.
+    pub routine: u16,
+    /// Its words.
+    pub words: &'c [u16; 8],
+    /// The handles of the blocks that are lent to its slots; 0 for each other slot.
+    pub handles: &'c [u16; 4],
+}
+
+/// Runs a routine as `Machine::run_in_place` does. Let any effects be granted, such that the routine does only those (`geos_grants::grant`
+/// tests that). Then what is not granted is as before, whatever is refused:
 ///
 /// - without `Output`, nothing is output;
 /// - without `Commits`, the file on the device is as before, at each moment of the run, and so is the saved directory;
@@ -34,21 +47,18 @@ fn copied(words: &[u16; 8]) -> [u16; 8]
 ///   that gives back what was written to it, and of each block that is lent to slots without `ChangesLent`, on every device.
 pub fn run_granted<'m, D: Device + Drop>(
     machine: &'m mut Machine,
-    granted: &Granted,
-    routine: u16,
-    words: &[u16; 8],
-    handles: &[u16; 4],
+    call: &RoutineCall<'_>,
     kernel: &mut Kernel<D>,
 ) -> &'m Outcome
-    requires admitted { admits granted.now.checked.now routine words.now ≡ true }
-    requires lent { Lends kernel.old.core (entry_slots granted.now.checked.now routine) handles.now }
-    ensures gave { Gave D.medium granted.now.checked.now routine words.now handles.now kernel.old kernel.new result.now }
+    requires admitted { admits call.now.checked.now call.now.routine call.now.words.now ≡ true }
+    requires lent { Lends kernel.old.core (entry_slots call.now.checked.now call.now.routine) call.now.handles.now }
+    ensures gave { Gave D.medium call.now.checked.now call.now.routine call.now.words.now call.now.handles.now kernel.old kernel.new result.now }
     ensures within { (f : VmFile) → IsFileOf (D.medium.honest kernel.old.device) kernel.old.core f
         → RanWithin (D.medium.honest kernel.old.device) (Throughout D.medium kernel.old.device kernel.new.device)
-        granted.now.checked.now granted.now.grants routine words.now handles.now kernel.old.core kernel.new.core result.now f }
+        call.now.checked.now call.now.routine call.now.words.now call.now.handles.now kernel.old.core kernel.new.core result.now f }
 {
     kernel.memory_is_legal();
-    let _words = copied(words);
-    let _image = granted.checked.image();
-    machine.run_in_place(granted.checked, routine, words, handles, kernel)
+    let _words = copied(call.words);
+    let _image = call.checked.image();
+    machine.run_in_place(call.checked, call.routine, call.words, call.handles, kernel)
 }

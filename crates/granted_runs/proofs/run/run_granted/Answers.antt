@@ -6,16 +6,17 @@ use Rattle.granted_runs.proofs.run.run_granted.Goals as goal
 pub returns : goal.returns
 returns g c =
     let honest : Type 0 = g.D.Device.medium.honest c.args.kernel.now.device in
-    let image = c.args.granted.now.checked.now in
+    let call = c.args.call.now in
+    let image = call.checked.now in
     let legal = c.memory_is_legal.ensures in
     let gave = c.run_in_place.ensures in
     record {
       gave = gave;
       within = λ f tied.
           ran-within g.D.Device.medium c.args.kernel.now.device c.run_in_place.new.kernel.device image c.image-image.ensures.checked
-          c.args.granted.now.grants c.args.routine c.args.words.now c.args.handles.now c.args.kernel.now.core c.run_in_place.new.kernel.core
+          call.routine call.words.now call.handles.now c.args.kernel.now.core c.run_in_place.new.kernel.core
           c.run_in_place.result.now f honest (legal.legal f tied)
-          (lends-lent honest c.args.kernel.now.core f tied (legal.locks f tied) (entry_slots image c.args.routine) c.args.handles.now
+          (lends-lent honest c.args.kernel.now.core f tied (legal.locks f tied) (entry_slots image call.routine) call.handles.now
           c.requires.lent)
-          (rw c.copied-words.ensures.value at c.copied-words.ensures.small) c.requires.admitted c.args.granted.now.only (gave.ran f tied);
+          (rw c.copied-words.ensures.value at c.copied-words.ensures.small) c.requires.admitted (gave.ran f tied);
     }
