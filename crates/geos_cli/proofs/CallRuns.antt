@@ -1,5 +1,5 @@
 -- One call that was carried out, or stopped, as the call that words name.
-use Rattle.std.proofs.Common.{◌≡◌, ◌∙◌, ℕ, false, List, [], ◌∷◌, Option, Some, None, Ok, refl, sym, subst}
+use Rattle.std.proofs.Common.{◌≡◌, ◌∙◌, ℕ, false, List, [], ◌∷◌, Option, Some, None, Ok, refl, sym}
 use Rattle.std.specs.Prelude.{is_some}
 use Rattle.geos_kernel.specs.View.{KernelState}
 use Rattle.geos_image.specs.Parts.{Parts}
@@ -11,7 +11,7 @@ use Rattle.geos_input.specs.declared.fault.ScriptFault.TheVariants.{TooLong, Bad
 use Rattle.script_commands.specs.declared.call_fault.CallFault.TheVariants.{Script}
 use Rattle.script_commands.specs.declared.command.Call.{Call}
 use Rattle.script_commands.specs.declared.command.Command.TheVariants as command
-use Rattle.geos_cli.specs.declared.script.Mode.TheVariants.{Lenient}
+use Rattle.geos_cli.specs.declared.script.Mode.TheVariants.{Strict}
 use Rattle.geos_cli.specs.declared.script.RefusedCommand.{RefusedCommand}
 use Rattle.script_commands.specs.Lines.{call_named, on_line}
 use Rattle.geos_cli.specs.Script.{From, IsAllowed, IsBadImage, Leads, RanCommands, StoppedCommands}
@@ -41,31 +41,25 @@ image-ends bytes name numbers Write h = absurd h
 module _ (honest : Type 0) (within : Within) (bytes name : List ℕ) (numbers : List (List ℕ)) (image : Parts)
     (call : Call) (kernel later : KernelState)
     (a b : Option (List ℕ)) (asks : Asks bytes name numbers image call) where
-  pub call-ran : (refused : Option RefusedCommand) → refused ≡ None → RanCommands Lenient honest within image
-      (on_line 1 (command.Call call) ∷ []) refused kernel later a b
-      → RanCall honest within bytes name numbers kernel later a b
-  call-ran refused none ran =
-      all (subst (λ r. RanCommands Lenient honest within image (on_line 1 (command.Call call) ∷ []) r kernel later a b) none ran)
+  pub call-ran : (refused : Option RefusedCommand) → RanCommands Strict honest within image (on_line 1 (command.Call call) ∷ []) refused kernel later a b
+      → RanCall honest within bytes name numbers refused kernel later a b
+  call-ran refused (text, leads, appends) = (text, of_call, appends)
     where
-      all : RanCommands Lenient honest within image (on_line 1 (command.Call call) ∷ []) None kernel later a b
-          → RanCall honest within bytes name numbers kernel later a b
-      all (text, leads, appends) = (text, of_call, appends)
-        where
-          of_call : Leads honest within kernel later
-              (λ before after keeps. From (RunsCall (IsAllowed honest) bytes name numbers before after text) before keeps)
-          of_call f tied =
-              let l = leads f tied in
-              record {
-                file = l.file;
-                tied = l.tied;
-                lasts = l.lasts;
-                keeps = l.keeps;
-                does =
-                    (l.does.0, (image, call, asks, l.does.1), l.does.2);
-                stops = l.stops;
-              }
+      of_call : Leads honest within kernel later
+          (λ before after keeps. From (RunsCall (IsAllowed honest) bytes name numbers refused before after text) before keeps)
+      of_call f tied =
+          let l = leads f tied in
+          record {
+            file = l.file;
+            tied = l.tied;
+            lasts = l.lasts;
+            keeps = l.keeps;
+            does =
+                (l.does.0, (image, call, asks, l.does.1), l.does.2);
+            stops = l.stops;
+          }
 
-  pub call-stopped : StoppedCommands Lenient honest within image (on_line 1 (command.Call call) ∷ []) kernel later a b
+  pub call-stopped : StoppedCommands Strict honest within image (on_line 1 (command.Call call) ∷ []) kernel later a b
       → StoppedCall honest within bytes name numbers kernel later a b
   call-stopped (text, leads, appends) = (text, of_call, appends)
     where

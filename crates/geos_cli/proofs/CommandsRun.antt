@@ -17,7 +17,8 @@ use Rattle.geos_kernel.specs.View.{KernelState, failed_in, memory_of, IsFileOf}
 use Rattle.geos_kernel.specs.Kernel.{Calls, IsChosen, NeverFell}
 use Rattle.geos_image.specs.Parts.{Parts}
 use Rattle.geos_machine.specs.declared.outcome.Outcome.{Outcome}
-use Rattle.geos_machine.specs.Runs.{begin, kept_along, OpensAsOneOf, RanWith, Throughout, Within}
+use Rattle.geos_machine.specs.Runs.{begin, kept_along, OpensAsOneOf, Throughout, Within}
+use Rattle.granted_runs.specs.Keeps.{RanWithin}
 use Rattle.geos_kernel.proofs.Chosen.{lasts-on}
 use Rattle.geos_kernel.proofs.Seen.{file-on}
 use Rattle.script_commands.specs.declared.command.Call.{Call}
@@ -56,7 +57,7 @@ throughout-then medium old mid new h P Q R first second (passes, whole) (more, r
 -- the machine ran a call from the one kernel to the other
 abbrev pub RunsCall : Type 0 → Within → Parts → Call → Outcome → KernelState → KernelState → Type 0
 RunsCall honest within image call outcome kernel later =
-    (f : VmFile) → IsFileOf honest kernel f → RanWith honest within image call.routine call.words call.handles kernel later outcome f
+    (f : VmFile) → IsFileOf honest kernel f → RanWithin honest within image call.routine call.words call.handles kernel later outcome f
 
 -- a stop in between leaves what the model has as kept beside the one, or beside the other
 abbrev pub StopsBetween : Type 0 → Within → KernelState → KernelState → Type 0
@@ -75,7 +76,8 @@ module _ (honest : Type 0) (within : Within) (image : Parts) (kernel later : Ker
       → Leads honest within kernel later (RunsOn (IsAllowed honest) image call (printed outcome.output.items))
   unfolding ran-wider
   run-leads call outcome ran f tied =
-      let r = ran f tied in
+      let whole = ran f tied in
+      let r = whole.ran in
       let wide =
       ran-wider (IsChosen honest kernel later) (IsAllowed honest (failed_in kernel) (failed_in later)) (allowed-between honest kernel later r.lasts)
       image call.routine call.words call.handles (memory_of kernel f) (memory_of later r.file) outcome r.ran in
@@ -84,7 +86,7 @@ module _ (honest : Type 0) (within : Within) (image : Parts) (kernel later : Ker
         tied = r.tied;
         lasts = r.lasts;
         keeps = kept_along image r.ran.choices (begin image call.routine call.words call.handles (memory_of kernel f));
-        does = (outcome, wide, refl, refl);
+        does = (outcome, wide, refl, refl, whole.spares);
         stops = r.stops;
       }
 

@@ -1,3 +1,4 @@
+pub mod BytesKept
 pub mod BytesMarks
 pub mod BytesPut
 pub mod BytesRefused

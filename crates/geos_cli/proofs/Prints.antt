@@ -101,12 +101,13 @@ module _ (P Q : Allows) (wider : (before now : ℕ) (choice : Choice) → P befo
 
   pub runs-wider : (image : Parts) (call : ScriptCall) (text : List ℕ) → Wider (RunsOn P image call text) (RunsOn Q image call text)
   unfolding ran-wider
-  runs-wider image call text before after keeps (outcome, ran, e, k) = (
+  runs-wider image call text before after keeps (outcome, ran, e, k, spares) = (
     outcome,
     ran-wider (P before.failed after.failed) (Q before.failed after.failed) (wider before.failed after.failed) image
         call.routine call.words call.handles before.memory after.memory outcome ran,
     e,
     k,
+    spares,
   )
 
   pub does-wider : (image : Parts) (c : Command) (result : Result (Unit {0}) Refusal) (before after : Stage) (text : List ℕ) (keeps : List Kept)
@@ -200,19 +201,20 @@ module _ (P Q : Allows) (back : (before now : ℕ) (choice : Choice) → P befor
       (comes-back (vunlock h) (Ok tt))) handles
 
   runs-back : (call : ScriptCall) (text : List ℕ) → Backs (RunsOn P image call text)
-  runs-back call text before after keeps (outcome, ran, e, k) zero =
+  runs-back call text before after keeps (outcome, ran, e, k, spares) zero =
       let first = some-choice (P before.failed after.failed) image call.routine call.words call.handles before.memory after.memory outcome ran in
       back before.failed after.failed first.0 first.1 zero
 
   runs-still : (call : ScriptCall) (text : List ℕ) → Stills (RunsOn P image call text) (RunsOn Q image call text)
   unfolding ran-wider
-  runs-still call text before after keeps zero (outcome, ran, e, k) = (
+  runs-still call text before after keeps zero (outcome, ran, e, k, spares) = (
     outcome,
     ran-wider (P before.failed after.failed) (Q before.failed after.failed)
-        (wider before.failed after.failed (runs-back call text before after keeps (outcome, ran, e, k) zero) zero)
+        (wider before.failed after.failed (runs-back call text before after keeps (outcome, ran, e, k, spares) zero) zero)
         image call.routine call.words call.handles before.memory after.memory outcome ran,
     e,
     k,
+    spares,
   )
 
   does-back : (c : Command) (result : Result (Unit {0}) Refusal) (before after : Stage) (text : List ℕ) (keeps : List Kept)

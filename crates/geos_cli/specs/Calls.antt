@@ -12,10 +12,11 @@ use Rattle.script_commands.specs.declared.call_fault.CallFault.{CallFault}
 use Rattle.script_commands.specs.declared.call_fault.CallFault.TheVariants.{BadBlocks, BadWord, Script}
 use Rattle.script_commands.specs.declared.command.Call.{Call}
 use Rattle.script_commands.specs.declared.command.Command.TheVariants as command
-use Rattle.geos_cli.specs.declared.script.Mode.TheVariants.{Lenient}
+use Rattle.geos_cli.specs.declared.script.Mode.TheVariants.{Strict}
+use Rattle.geos_cli.specs.declared.script.RefusedCommand.{RefusedCommand}
 use Rattle.script_commands.specs.CallWords.{IsWhyNoCall}
 use Rattle.script_commands.specs.Lines.{call_named, on_line}
-use Rattle.geos_cli.specs.Script.{Allows, From, IsAllowed, IsBadImage, Leads, Prints, PrintsUpTo, Stage}
+use Rattle.geos_cli.specs.Script.{Allows, From, IsAllowed, IsBadImage, Leads, PrintsTo, PrintsUpTo, Stage}
 
 -- bytes spell an image that the verifier accepts, and the call is that of its routine with the name, on the numbers and the blocks behind them
 pub record Asks (bytes name : List ℕ) (words : List (List ℕ)) (image : Parts) (call : Call) : Type 0 where
@@ -23,23 +24,25 @@ pub record Asks (bytes name : List ℕ) (words : List (List ℕ)) (image : Parts
   pub accepted : Accepted image
   pub named : call_named image name words ≡ Some call
 
--- that call runs, from stage to stage, and prints the text
-abbrev pub RunsCall : Allows → List ℕ → List ℕ → List (List ℕ) → Stage → Stage → List ℕ → List Kept → Type 0
-RunsCall allows bytes name words before after text keeps =
+-- that call runs, or is refused, from stage to stage, and prints the text
+abbrev pub RunsCall : Allows → List ℕ → List ℕ → List (List ℕ) → Option RefusedCommand → Stage → Stage → List ℕ → List Kept → Type 0
+RunsCall allows bytes name words refused before after text keeps =
     (image : Parts) × (call : Call) × Asks bytes name words image call
-    × Prints Lenient allows image (on_line 1 (command.Call call) ∷ []) before after text keeps
+    × PrintsTo Strict allows image (on_line 1 (command.Call call) ∷ []) refused before after text keeps
 
 -- that call has come to the stage after and printed the text when the writer fails
 abbrev pub StopsCall : Allows → List ℕ → List ℕ → List (List ℕ) → Stage → Stage → List ℕ → List Kept → Type 0
 StopsCall allows bytes name words before after text keeps =
     (image : Parts) × (call : Call) × Asks bytes name words image call
-    × PrintsUpTo Lenient allows image (on_line 1 (command.Call call) ∷ []) before after text keeps
+    × PrintsUpTo Strict allows image (on_line 1 (command.Call call) ∷ []) before after text keeps
 
--- the call ran, from kernel to kernel, and a writer got its text
-abbrev pub RanCall : Type 0 → Within → List ℕ → List ℕ → List (List ℕ) → KernelState → KernelState → Option (List ℕ) → Option (List ℕ) → Type 0
-RanCall honest within bytes name words kernel later old new =
+-- the call ran, or was refused, from kernel to kernel, and a writer got its text
+abbrev pub RanCall : Type 0 → Within → List ℕ → List ℕ → List (List ℕ) → Option RefusedCommand → KernelState → KernelState
+    → Option (List ℕ) → Option (List ℕ) → Type 0
+RanCall honest within bytes name words refused kernel later old new =
     (text : List ℕ)
-    × Leads honest within kernel later (λ before after keeps. From (RunsCall (IsAllowed honest) bytes name words before after text) before keeps)
+    × Leads honest within kernel later
+    (λ before after keeps. From (RunsCall (IsAllowed honest) bytes name words refused before after text) before keeps)
     × Appends old new text
 
 -- the call was stopped by a writer that failed, which got the text up to there

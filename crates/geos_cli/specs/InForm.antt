@@ -145,19 +145,19 @@ StoppedScriptInForm medium form mode bytes script kernel later old new =
     (image : Parts) × (length script ≤ most_bytes) × Loads bytes (lines script) image
     × StoppedInForm medium form mode image (commands_of image (lines script)) kernel later old new
 
--- the call that words name ran on the image that the bytes spell, and a writer got its text
-abbrev pub RanCallInForm : {D : Type 0} → Medium D → Form → List ℕ → List ℕ → List (List ℕ) → KernelOn D → KernelOn D
+-- the call that words name ran on the image that the bytes spell, or was refused, and a writer got its text
+abbrev pub RanCallInForm : {D : Type 0} → Medium D → Form → List ℕ → List ℕ → List (List ℕ) → Option RefusedCommand → KernelOn D → KernelOn D
     → Option (List ℕ) → Option (List ℕ) → Type 0
-RanCallInForm medium form bytes name words kernel later old new =
+RanCallInForm medium form bytes name words refused kernel later old new =
     (image : Parts) × (call : Call) × Asks bytes name words image call
-    × RanInForm medium form Lenient image (on_line 1 (command.Call call) ∷ []) None kernel later old new
+    × RanInForm medium form Strict image (on_line 1 (command.Call call) ∷ []) refused kernel later old new
 
 -- it was stopped
 abbrev pub StoppedCallInForm : {D : Type 0} → Medium D → Form → List ℕ → List ℕ → List (List ℕ) → KernelOn D → KernelOn D
     → Option (List ℕ) → Option (List ℕ) → Type 0
 StoppedCallInForm medium form bytes name words kernel later old new =
     (image : Parts) × (call : Call) × Asks bytes name words image call
-    × StoppedInForm medium form Lenient image (on_line 1 (command.Call call) ∷ []) kernel later old new
+    × StoppedInForm medium form Strict image (on_line 1 (command.Call call) ∷ []) kernel later old new
 
 -- what is left at a fault: all as it was, or behind some commands where the writer failed, or where memory was refused for what one prints
 abbrev pub Leaves : ScriptFault → Type 0 → Type 0 → Type 0

@@ -17,6 +17,7 @@ use Rattle.geos_image.specs.Reading.{image_at}
 use Rattle.geos_verify.specs.Rules.{Accepted, FirstRefusal}
 use Rattle.geos_machine.specs.declared.outcome.Outcome.{Outcome}
 use Rattle.geos_machine.specs.Runs.{begin, kept_along, OpensAsOneOf, Ran, Throughout, Within}
+use Rattle.granted_runs.specs.Keeps.{SparesDenied}
 use Rattle.geos_text.specs.Words.{most_bytes}
 use Rattle.script_commands.specs.declared.command.Call.{Call}
 use Rattle.script_commands.specs.declared.command.Command.{Command}
@@ -33,13 +34,14 @@ pub use Rattle.geos_cli.specs.Stages.{LockedMore, Stage, stage_of, Allows, IsAll
 use Rattle.geos_input.specs.declared.fault.ScriptFault.{ScriptFault}
 use Rattle.geos_input.specs.declared.fault.ScriptFault.TheVariants.{TooLong, BadHex, BadImage, Rejected, BadScript, Read, Write, Memory}
 
--- the routine of a call runs on the blocks that it is lent, and this is what it prints
+-- the routine of a call runs on the blocks that it is lent, and this is what it prints; what it was not granted is as before, whatever was
 abbrev pub RunsOn : Allows → Parts → Call → List ℕ → Stage → Stage → List Kept → Type 0
 RunsOn allows image call text before after keeps =
     (outcome : Outcome)
     × (ran : Ran (allows before.failed after.failed) image call.routine call.words call.handles before.memory after.memory outcome)
     × (text ≡ printed outcome.output.items)
     × (keeps ≡ kept_along image ran.choices (begin image call.routine call.words call.handles before.memory))
+    × SparesDenied image call.routine call.words call.handles before.memory ran.choices ran.last
 
 -- the blocks that a call lends are locked, its routine runs, and they are unlocked
 abbrev pub RunsLent : Allows → Parts → Call → List ℕ → Stage → Stage → List Kept → Type 0

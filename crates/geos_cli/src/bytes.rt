@@ -1,14 +1,16 @@
 //! The bytes of a chunk of a VM file's block, or of an item, are read or written by calls of the kernel.
 
-ghost use Rattle.std.specs.Prelude.{◌≡◌, ◌↔◌, ◌<◌, ◌≤◌, ◌+◌, max, length, IfOk, IfErr, OnOk, Ok, Some, None};
+ghost use Rattle.std.specs.Prelude.{[], ◌∷◌, ◌≡◌, ◌↔◌, ◌<◌, ◌≤◌, ◌+◌, max, length, IfOk, IfErr, OnOk, Ok, Some, None};
 ghost use Rattle.geos_cli.specs.Bytes.{handle_of, Closes, Gets, Measures, Opened, Puts, Resizes, Stores, Writes, IsUnwritten, EndsWithUpdate};
 ghost use Rattle.geos_cli.specs.Bytes.{HasMark, IsTooLong, NotOpened, NotPut, NotResized, NotStored};
 ghost use Rattle.geos_cli.specs.Script.{Comes, LeadsOn, MarksOne};
 ghost use Rattle.geos_calls.specs.Calls as table;
 ghost use Rattle.geos_calls.specs.Effects.{Reference};
+ghost use Rattle.geos_calls.specs.VmFile.{VmFile};
 ghost use Rattle.geos_kernel.specs.Loads.{Loads};
 ghost use Rattle.geos_kernel.specs.Spans.{IsStanding, IsWritable, Stands};
-ghost use Rattle.geos_kernel.specs.View.{IsLocked, IsMarked};
+ghost use Rattle.geos_kernel.specs.View.{IsFileOf, IsLocked, IsMarked};
+ghost use Rattle.geos_machine.specs.Runs.{OpensAsOneOf, Throughout};
 ghost use Rattle.geos_terms.specs.Names.{vm};
 
 use crate::lending::{lock, unlock};
@@ -315,7 +317,11 @@ pub fn put_bytes<D: Device + Drop>(
 ) -> Result<(), Refusal>
     // What is updated are the blocks as they were, with these bytes there: as the model's calls leave them. A refusal is that of a call
     // which the model refuses too.
-    ensures { EndsWithUpdate D.medium place at bytes.now kernel.old kernel.new result }
+    ensures ends { EndsWithUpdate D.medium place at bytes.now kernel.old kernel.new result }
+    // A stop at any moment leaves the file as before or as after.
+    ensures stops { (f g : VmFile) → IsFileOf (D.medium.honest kernel.old.device) kernel.old.core f
+        → IsFileOf (D.medium.honest kernel.old.device) kernel.new.core g
+        → D.medium.honest kernel.old.device → Throughout D.medium kernel.old.device kernel.new.device (OpensAsOneOf (f.kept ∷ g.kept ∷ [])) }
 {
     put(kernel, place, at, bytes)?;
     if !kernel.vm_unlocked() {

@@ -13,7 +13,7 @@ ghost use Rattle.geos_kernel.specs.View.{SeesDevice};
 ghost use Rattle.geos_machine.specs.Runs.{Throughout};
 ghost use Rattle.vm_blocks.specs.Listed.{NoneLocked};
 
-use crate::script::{Mode, carry_out_all, load};
+use crate::script::{Mode, RefusedCommand, carry_out_all, load};
 use geos_input::Counted;
 use geos_kernel::Kernel;
 use script_commands::{CallFault, Command, Numbered, call_on, why_no_call};
@@ -22,7 +22,7 @@ use std::io::Write;
 use vm_file::Device;
 
 /// Checks an image and runs one routine of it, on at most eight numbers; prints the words that it puts out, or `refused` and a number where a
-/// block that it is lent can't be locked. `name` is that of a public routine. Each number is of digits alone, at most 65,535 and within the
+/// block that it is lent can't be locked: then the refused call is answered, as line 1. `name` is that of a public routine. Each number is of digits alone, at most 65,535 and within the
 /// bound of its word; behind them stands `@` with the handle of a block for each slot that the routine borrows. The call finds the
 /// kernel's memory as it is, and nothing commits but the routine's own instructions. What was printed before is flushed where the call may
 /// commit; behind it nothing is flushed.
@@ -37,13 +37,14 @@ pub fn run_call<W: Write, D: Device + Drop>(
     words: &[&str],
     kernel: &mut Kernel<D>,
     out: &mut Counted<W>,
-) -> Result<(), CallFault>
+) -> Result<Option<RefusedCommand>, CallFault>
     // No block of the file is locked by others: `Kernel::vm_unlocked` tells it.
     requires unlocked { NoneLocked kernel.old.core.blocks }
     // What it printed; and stopped at any moment, opening the file finds what the model's run of the
-    // routine has as kept in one of its states.
-    ensures ran { IfOk result (λ _. RanCall (D.medium.honest kernel.old.device)
-        (Throughout D.medium kernel.old.device kernel.new.device) image.now name.now (texts words.now) kernel.old.core kernel.new.core
+    // routine has as kept in one of its states. Whatever is granted, if the routine does only that, its run
+    // leaves what is not granted as it was.
+    ensures ran { IfOk result (λ refused. RanCall (D.medium.honest kernel.old.device)
+        (Throughout D.medium kernel.old.device kernel.new.device) image.now name.now (texts words.now) refused kernel.old.core kernel.new.core
         (W.contents out.old.stream) (W.contents out.new.stream)) }
     ensures due { IfErr result (CallEndsBy image.now name.now (texts words.now)) }
     ensures stopped { IfErr result (λ fault. fault ≡ Script Write →
@@ -79,8 +80,8 @@ pub fn run_call<W: Write, D: Device + Drop>(
         line: 1,
         command: Command::Call(call),
     };
-    match carry_out_all(Mode::Lenient, &checked, &[command], kernel, out) {
-        Ok(_) => Ok(()),
+    match carry_out_all(Mode::Strict, &checked, &[command], kernel, out) {
+        Ok(refused) => Ok(refused),
         Err(fault) => Err(CallFault::Script(fault)),
     }
 }

@@ -113,11 +113,11 @@ pub fn run_call_in_form<W: Write, D: Device + Drop>(
     words: &[&str],
     kernel: &mut Kernel<D>,
     out: &mut Counted<W>,
-) -> Result<(), CallFault>
+) -> Result<Option<RefusedCommand>, CallFault>
     requires unlocked { NoneLocked kernel.old.core.blocks }
     // The call did what it does plainly, and the writer got what it printed, in the form. Stopped at any moment, opening
     // the file finds what the model's run of the call has as kept in one of its states.
-    ensures ran { IfOk result (λ _. RanCallInForm D.medium form image.now name.now (texts words.now) kernel.old kernel.new
+    ensures ran { IfOk result (λ refused. RanCallInForm D.medium form image.now name.now (texts words.now) refused kernel.old kernel.new
         (W.contents out.old.stream) (W.contents out.new.stream)) }
     ensures due { IfErr result (CallEndsBy image.now name.now (texts words.now)) }
     // Nothing ran and nothing was written, or the call did, and the writer got a beginning of its text. A stop then leaves
@@ -142,16 +142,8 @@ pub fn run_call_in_form<W: Write, D: Device + Drop>(
         line: 1,
         command: Command::Call(call),
     };
-    match carry_out_all_in_form(
-        alloc,
-        form,
-        Mode::Lenient,
-        &checked,
-        &[command],
-        kernel,
-        out,
-    ) {
-        Ok(_) => Ok(()),
+    match carry_out_all_in_form(alloc, form, Mode::Strict, &checked, &[command], kernel, out) {
+        Ok(refused) => Ok(refused),
         Err(fault) => Err(CallFault::Script(fault)),
     }
 }

@@ -14,7 +14,8 @@ ghost use Rattle.geos_kernel.specs.Files.{vm_file_of};
 ghost use Rattle.geos_kernel.specs.Kernel.{LeavesVm};
 ghost use Rattle.geos_kernel.specs.View.{IsFileOf, IsLocked, SeesDevice};
 ghost use Rattle.geos_machine.specs.Lent.{has_block};
-ghost use Rattle.geos_machine.specs.Runs.{RanWith, Throughout};
+ghost use Rattle.geos_machine.specs.Runs.{Throughout};
+ghost use Rattle.granted_runs.specs.Keeps.{RanWithin};
 ghost use Rattle.script_commands.specs.Lent.{lent_by, lent_handles};
 ghost use Rattle.script_commands.specs.Lines.{may_ask};
 ghost use Rattle.geos_cli.specs.Script.{once, times};
@@ -26,6 +27,7 @@ use geos_kernel::Kernel;
 use geos_machine::{Machine, Outcome};
 use geos_terms::{Name, Refusal};
 use geos_verify::Checked;
+use granted_runs::{RoutineCall, run_granted};
 use script_commands::{Call, lent_handles};
 use vm_file::Device;
 
@@ -148,14 +150,20 @@ fn run<'m, D: Device + Drop>(
     requires there { All (λ h. has_block kernel.old.core h ≡ true) (lent_by checked.now call.now) }
     requires counts { (g : ℕ) → locks_of kernel.old.core.blocks (vm_slot g) ≡ times g (lent_by checked.now call.now) }
     ensures ran { (f : VmFile) → IsFileOf (D.medium.honest kernel.old.device) kernel.old.core f
-        → RanWith (D.medium.honest kernel.old.device) (Throughout D.medium kernel.old.device kernel.new.device)
+        → RanWithin (D.medium.honest kernel.old.device) (Throughout D.medium kernel.old.device kernel.new.device)
         checked.now call.now.routine call.now.words call.now.handles kernel.old.core kernel.new.core result.now f }
     ensures counts { (g : ℕ) → locks_of kernel.new.core.blocks (vm_slot g) ≡ locks_of kernel.old.core.blocks (vm_slot g) }
     ensures honest { D.medium.honest kernel.new.device ↔ D.medium.honest kernel.old.device }
     ensures sees { SeesDevice D.medium kernel.old × SeesDevice D.medium kernel.new }
     ensures steadily { Steadily D.medium (vm_file_of kernel.old) (vm_file_of kernel.new) }
 {
-    machine.run_in_place(checked, call.routine, &call.words, &call.handles, kernel)
+    let call = RoutineCall {
+        checked,
+        routine: call.routine,
+        words: &call.words,
+        handles: &call.handles,
+    };
+    run_granted(machine, &call, kernel)
 }
 
 /// Locks the blocks that a call lends, in the order of slots, runs its routine, and unlocks them. Where a lock is refused,

@@ -21,7 +21,7 @@ use crate::lending::{lock_lent, unlock_all};
 use crate::script::load;
 use geos_input::ScriptFault;
 use geos_kernel::Kernel;
-use geos_machine::{Machine, Outcome, Trace};
+use geos_machine::{Machine, Outcome, Trace, Unwatched, Watch};
 use geos_terms::Refusal;
 use geos_verify::Checked;
 use script_commands::{Call, CallFault, call_on, routine_named, why_no_call};
@@ -66,11 +66,12 @@ fn stretch_of(checked: &Checked, only: Option<&str>) -> Option<(u16, u16)>
 }
 
 /// Runs the routine of a call on blocks that are locked for it, and notes its steps.
-fn trace<D: Device + Drop>(
+fn trace<D: Device + Drop, W: Watch>(
     checked: &Checked,
     call: &Call,
     kernel: &mut Kernel<D>,
     notes: &mut Trace,
+    watcher: &mut W,
 ) -> Outcome
     requires admitted { may_ask checked.now call.now ≡ true }
     requires there { All (λ h. has_block kernel.old.core h ≡ true) (lent_by checked.now call.now) }
@@ -87,22 +88,24 @@ fn trace<D: Device + Drop>(
 {
     // for a file that the model may know
     kernel.memory_is_legal();
-    Machine::new().trace(
+    Machine::new().trace_watched(
         checked,
         call.routine,
         &call.words,
         &call.handles,
         kernel,
         notes,
+        watcher,
     )
 }
 
 /// Does as `run_lent`, and notes the steps of the routine.
-fn trace_lent<D: Device + Drop>(
+fn trace_lent<D: Device + Drop, W: Watch>(
     checked: &Checked,
     call: &Call,
     kernel: &mut Kernel<D>,
     notes: &mut Trace,
+    watcher: &mut W,
 ) -> Result<Outcome, Refusal>
     requires admitted { may_ask checked.now call.now ≡ true }
     requires unlocked { NoneLocked kernel.old.core.blocks }
@@ -118,7 +121,7 @@ fn trace_lent<D: Device + Drop>(
     ensures steadily { Steadily D.medium (vm_file_of kernel.old) (vm_file_of kernel.new) }
 {
     let lent = lock_lent(checked, call, kernel)?;
-    let outcome = trace(checked, call, kernel, notes);
+    let outcome = trace(checked, call, kernel, notes, watcher);
     unlock_all(kernel, lent.as_slice());
     Ok(outcome)
 }
@@ -151,6 +154,34 @@ pub fn trace_call<D: Device + Drop>(
     ensures sees { SeesDevice D.medium kernel.old × SeesDevice D.medium kernel.new }
     ensures steadily { Steadily D.medium (vm_file_of kernel.old) (vm_file_of kernel.new) }
 {
+    let mut nobody = Unwatched;
+    trace_call_watched(alloc, image, name, words, only, most, kernel, &mut nobody)
+}
+
+/// Does as `trace_call`. A watcher sees the machine and the kernel before each step.
+pub fn trace_call_watched<D: Device + Drop, W: Watch>(
+    alloc: Global,
+    image: &[u8],
+    name: &str,
+    words: &[&str],
+    only: Option<&str>,
+    most: usize,
+    kernel: &mut Kernel<D>,
+    watcher: &mut W,
+) -> Result<Result<TracedCall, Refusal>, TraceFault>
+    // No block of the file is locked by others: `Kernel::vm_unlocked` tells it.
+    requires unlocked { NoneLocked kernel.old.core.blocks }
+    // The model's locks, its run of the routine, what was noted of its steps, and the unlocks; or a lock that was refused.
+    ensures ran { IfOk result (IsTraced D.medium kernel.old kernel.new image.now name.now (texts words.now)
+        (option_map (λ word. word.now) only.entry) most) }
+    ensures due { IfErr result (WhyNotTraced image.now name.now (texts words.now) (option_map (λ word. word.now) only.entry)) }
+    // Nothing runs before a fault.
+    ensures kept { IfErr result (λ _. kernel.new ≡ kernel.old) }
+    ensures honest { D.medium.honest kernel.new.device ↔ D.medium.honest kernel.old.device }
+    ensures unlocked { NoneLocked kernel.new.core.blocks }
+    ensures sees { SeesDevice D.medium kernel.old × SeesDevice D.medium kernel.new }
+    ensures steadily { Steadily D.medium (vm_file_of kernel.old) (vm_file_of kernel.new) }
+{
     kernel.memory_is_legal();
     let checked = match load(alloc, image) {
         Ok(checked) => checked,
@@ -165,7 +196,7 @@ pub fn trace_call<D: Device + Drop>(
     let Ok(mut notes) = Trace::new(alloc, first, end, most) else {
         return Err(TraceFault::Call(CallFault::Script(ScriptFault::Memory)));
     };
-    match trace_lent(&checked, &call, kernel, &mut notes) {
+    match trace_lent(&checked, &call, kernel, &mut notes, watcher) {
         Ok(outcome) => Ok(Ok(TracedCall {
             checked,
             routine: call.routine,

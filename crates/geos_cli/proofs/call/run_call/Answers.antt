@@ -1,4 +1,4 @@
-use Rattle.std.proofs.Common.{ap, refl, subst, sym}
+use Rattle.std.proofs.Common.{ap, subst, sym}
 use Rattle.geos_input.specs.declared.fault.ScriptFault.{ScriptFault}
 use Rattle.script_commands.specs.declared.call_fault.CallFault.TheVariants.{Script}
 use Rattle.script_commands.specs.Reading.{texts}
@@ -17,8 +17,7 @@ pub returns-in-Ok-clause-ran : goal.returns-in-Ok-clause-ran
 returns-in-Ok-clause-ran g c =
     let asked = asks _ _ _ _ _ c.in-Some.call c.in_ok-checked.ensures.image c.call_on.ensures c.in-Some.is in
     call-ran (g.D.Device.medium.honest c.args.kernel.now.device) _ c.args.image.now c.args.name.now (texts c.args.words.now)
-    c.in_ok-checked.checked c.in-Some.call c.args.kernel.now.core c.carry_out_all.new.kernel.core _ _ asked _
-    (c.in-Ok.ensures.lenient refl) c.in-Ok.ensures.ok
+    c.in_ok-checked.checked c.in-Some.call c.args.kernel.now.core c.carry_out_all.new.kernel.core _ _ asked _ c.in-Ok.ensures.ok
 
 pub returns-clause-due : goal.returns-clause-due
 returns-clause-due g c =

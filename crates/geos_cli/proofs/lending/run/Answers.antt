@@ -10,8 +10,8 @@ use Rattle.script_commands.specs.Lent.{lent_handles}
 use Rattle.geos_cli.proofs.LentLocks.{lends-locked}
 use Rattle.geos_cli.proofs.lending.run.Goals as goal
 
-pub run_in_place-requires-clause-lent : goal.run_in_place-requires-clause-lent
-run_in_place-requires-clause-lent g c =
+pub run_granted-requires-clause-lent : goal.run_granted-requires-clause-lent
+run_granted-requires-clause-lent g c =
     let image = c.args.checked.now in
     let call = c.args.call.now in
     let slots = entry_slots image call.routine in
@@ -19,17 +19,17 @@ run_in_place-requires-clause-lent g c =
     lends-locked core slots call.handles (and_parts (admits image call.routine call.words) (all2 is_placed slots call.handles) c.requires.admitted).1
     (recursion_from_All (λ h. has_block core h ≡ true) (lent_handles slots call.handles) c.requires.there) c.requires.counts
 
-pub run_in_place-requires-clause-admitted : goal.run_in_place-requires-clause-admitted
-run_in_place-requires-clause-admitted g c =
+pub run_granted-requires-clause-admitted : goal.run_granted-requires-clause-admitted
+run_granted-requires-clause-admitted g c =
     let image = c.args.checked.now in
     let call = c.args.call.now in
     (and_parts (admits image call.routine call.words) (all2 is_placed (entry_slots image call.routine) call.handles) c.requires.admitted).0
 
 pub returns : goal.returns
 returns g c = record {
-  ran = c.run_in_place.ensures.ran;
-  counts = λ n. c.run_in_place.ensures.locks (vm n);
-  honest = c.run_in_place.ensures.honest;
-  sees = c.run_in_place.ensures.sees;
-  steadily = c.run_in_place.ensures.steadily;
+  ran = c.run_granted.ensures.within;
+  counts = λ n. c.run_granted.ensures.gave.locks (vm n);
+  honest = c.run_granted.ensures.gave.honest;
+  sees = c.run_granted.ensures.gave.sees;
+  steadily = c.run_granted.ensures.gave.steadily;
 }

@@ -10,8 +10,8 @@ use Rattle.script_commands.specs.Lent.{lent_handles}
 use Rattle.geos_cli.proofs.LentLocks.{lends-locked}
 use Rattle.geos_cli.proofs.traced.trace.Goals as goal
 
-pub trace-requires-clause-lent : goal.trace-requires-clause-lent
-trace-requires-clause-lent g c =
+pub trace_watched-requires-clause-lent : goal.trace_watched-requires-clause-lent
+trace_watched-requires-clause-lent g c =
     let image = c.args.checked.now in
     let call = c.args.call.now in
     let slots = entry_slots image call.routine in
@@ -19,8 +19,8 @@ trace-requires-clause-lent g c =
     lends-locked core slots call.handles (and_parts (admits image call.routine call.words) (all2 is_placed slots call.handles) c.requires.admitted).1
     (recursion_from_All (λ h. has_block core h ≡ true) (lent_handles slots call.handles) c.requires.there) c.requires.counts
 
-pub trace-requires-clause-admitted : goal.trace-requires-clause-admitted
-trace-requires-clause-admitted g c =
+pub trace_watched-requires-clause-admitted : goal.trace_watched-requires-clause-admitted
+trace_watched-requires-clause-admitted g c =
     let image = c.args.checked.now in
     let call = c.args.call.now in
     (and_parts (admits image call.routine call.words) (all2 is_placed (entry_slots image call.routine) call.handles) c.requires.admitted).0
@@ -28,12 +28,12 @@ trace-requires-clause-admitted g c =
 pub returns : goal.returns
 returns g c =
     let known = c.memory_is_legal.ensures.file in
-    let traced = c.trace.ensures.ran known.0 known.1 in
+    let traced = c.trace_watched.ensures.ran known.0 known.1 in
     record {
-      ran = c.trace.ensures.ran;
+      ran = c.trace_watched.ensures.ran;
       made = record { first = traced.first; end = traced.end; most = traced.most };
-      counts = λ n. c.trace.ensures.locks (vm n);
-      honest = c.trace.ensures.honest;
-      sees = c.trace.ensures.sees;
-      steadily = c.trace.ensures.steadily;
+      counts = λ n. c.trace_watched.ensures.locks (vm n);
+      honest = c.trace_watched.ensures.honest;
+      sees = c.trace_watched.ensures.sees;
+      steadily = c.trace_watched.ensures.steadily;
     }

@@ -12,9 +12,9 @@ use Rattle.geos_cli.specs.declared.traced.TraceFault.TheVariants as trace_fault
 use Rattle.script_commands.specs.Reading.{texts}
 use Rattle.script_commands.specs.CallWords.{IsWhyNoCall}
 use Rattle.geos_cli.specs.Script.{IsBadImage}
-use Rattle.geos_cli.specs.Traced.{stretch_of, WhyNotTraced}
+use Rattle.geos_cli.specs.Traced.{WhyNotTraced}
 use Rattle.geos_cli.proofs.CallRuns.{asks}
-use Rattle.geos_cli.proofs.traced.trace_call.Goals as goal
+use Rattle.geos_cli.proofs.traced.trace_call_watched.Goals as goal
 
 module _ (bytes name : List ℕ) (words : List (List ℕ)) (only : Option (List ℕ)) where
   -- a bad image is a fault of the call
