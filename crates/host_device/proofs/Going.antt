@@ -1,5 +1,5 @@
 -- A device goes on from an earlier state where some image is none that a stop since then may have left.
-use Rattle.std.proofs.Common.{◌≡◌, ◌∙◌, ◌⊎◌, ℕ, suc, ◌+◌, List, [], ◌∷◌, ◌++◌, drop, get_or, length, map, refl, ap, sym, inl, inr, arith}
+use Rattle.std.proofs.Common.{◌≡◌, ◌∙◌, ◌⊎◌, ℕ, suc, List, [], ◌∷◌, ◌++◌, drop, get_or, length, map, refl, ap, sym, inl, inr, arith}
 use Rattle.std.proofs.lemmas.Bool.{cases_eq}
 use Rattle.std.proofs.lemmas.List.{drop_at}
 use Rattle.lmem_raw.specs.Bytes.{with_part}
@@ -7,8 +7,7 @@ use Rattle.lmem_raw.proofs.Parts.{length-with_part}
 use Rattle.vm_file.specs.Device.{AfterWrite, Passes}
 use Rattle.vm_file.specs.Outcomes.{ReadsOnly, WritesOnly}
 use Rattle.host_device.specs.declared.device.HostDevice.{HostDevice}
-use Rattle.host_device.specs.declared.step.Step.{Step}
-use Rattle.host_device.specs.declared.step.Step.TheVariants.{Write, Sync}
+use Rattle.host_device.specs.Notes.{Note, Write, Sync}
 use Rattle.host_device.specs.Journal.{GoesOn, Leaves, MayHaveLeft, MayLeave, at_once, bytes_of, journal_of, medium, performed, steps_of, told}
 
 -- lists are the same or not, where elements are
@@ -44,10 +43,10 @@ behind : (front all more : List (List ℕ)) → all ≡ front ++ more → all �
 behind front all more is = is ∙ ap (λ xs. front ++ xs) (sym (ap (drop (length front)) is ∙ drop_at front more (length front) refl))
 
 -- what a stop leaves is as long as what the device holds
-pub leaves-long : (bytes : List ℕ) (steps : List Step) (c : List ℕ) → Leaves bytes steps c → length c ≡ length bytes
+pub leaves-long : (bytes : List ℕ) (steps : List Note) (c : List ℕ) → Leaves bytes steps c → length c ≡ length bytes
 leaves-long bytes [] c is = ap length is
 leaves-long bytes (Write at stood given ∷ before) c left =
-    left.2.long ∙ leaves-long (with_part bytes at stood.items) before left.0 left.1 ∙ length-with_part bytes at stood.items
+    left.2.long ∙ leaves-long (with_part bytes at stood) before left.0 left.1 ∙ length-with_part bytes at stood
 leaves-long bytes (Sync ∷ before) c is = ap length is
 
 longer-not : (bytes c : List ℕ) → length c ≡ length bytes → c ≡ 0 ∷ bytes → ⊥

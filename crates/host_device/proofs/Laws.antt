@@ -7,9 +7,12 @@ use Rattle.vm_file.specs.Noting.{Rests}
 use Rattle.vm_file.specs.Outcomes.{ReadsOnly, WritesOnly}
 use Rattle.vm_file.proofs.Touches.{touched_not}
 use Rattle.host_device.specs.declared.device.HostDevice.{HostDevice}
-use Rattle.host_device.specs.declared.step.Step.{Step}
-use Rattle.host_device.specs.declared.step.Step.TheVariants.{Write, Sync}
-use Rattle.host_device.specs.Journal.{Follows, GoesOn, IsStill, IsWriteOf, Leaves, LeavesSince, MayHaveLeft, MayLeave, Settles, before_step, bytes_of, journal_of, leaves_now, medium, performed, steps_of, told}
+use Rattle.host_device.specs.Notes.{Note, Write, Sync}
+use Rattle.host_device.specs.Journal.{Follows, GoesOn, IsStill, Leaves, LeavesSince, MayHaveLeft, MayLeave, Settles, before_step, bytes_of, journal_of, leaves_now, medium, performed, steps_of, told}
+
+-- a part that lies within the bytes has its length
+pub part-long : (bs : List ℕ) (at n : ℕ) → at + n ≤ length bs → length (part bs at n) ≡ n
+part-long bs at n within = omega (arith, within, length-take n (drop at bs), length-drop at bs)
 
 -- bytes that are written over and written back
 pub put-back : (bs : List ℕ) (at : ℕ) (ws : List ℕ) → with_part (with_part bs at ws) at (part bs at (length ws)) ≡ bs
@@ -19,11 +22,11 @@ put-back (b ∷ bs) zero (w ∷ ws) = ap (λ xs. b ∷ xs) (put-back bs zero ws)
 put-back (b ∷ bs) (suc at) ws = ap (λ xs. b ∷ xs) (put-back bs at ws)
 
 -- one step more is the last one
-pub steps-more : (steps more : List Step) (step : Step) → more ≡ steps ++ (step ∷ []) → reverse more ≡ step ∷ reverse steps
+pub steps-more : (steps more : List Note) (step : Note) → more ≡ steps ++ (step ∷ []) → reverse more ≡ step ∷ reverse steps
 steps-more steps more step is = ap reverse is ∙ reverse-append steps (step ∷ [])
 
 -- where one step more was noted, it was before it or after it
-left-more : (bytes : List ℕ) (had : ℕ) (step : Step) (before : List Step) (c : List ℕ)
+left-more : (bytes : List ℕ) (had : ℕ) (step : Note) (before : List Note) (c : List ℕ)
     → LeavesSince bytes (suc (length before) - had) (step ∷ before) c
     → LeavesSince (before_step bytes step) (length before - had) before c ⊎ Leaves bytes (step ∷ before) c
 left-more bytes had step before c since = by (suc (length before) - had) refl since
@@ -98,7 +101,7 @@ module _ (old new : HostDevice) where
     }
 
   -- one step more is noted
-  goes-noting : (step : Step) → journal_of new ≡ journal_of old ++ (step ∷ []) → Follows old new → GoesOn old new
+  goes-noting : (step : Note) → journal_of new ≡ journal_of old ++ (step ∷ []) → Follows old new → GoesOn old new
   goes-noting step noted follows = record {
     more = told step ∷ [];
     notes = ap (map told) noted ∙ map-append told (journal_of old) (step ∷ []);
@@ -106,14 +109,21 @@ module _ (old new : HostDevice) where
   }
 
   -- a write
-  module _ (at : ℕ) (ws : List ℕ) (step : Step) (w : IsWriteOf old at ws step) (journal : journal_of new ≡ journal_of old ++ (step ∷ []))
+  module _ (at : ℕ) (ws : List ℕ)
+      (journal : journal_of new ≡ journal_of old ++ (Write at (part (bytes_of old) at (length ws)) ws ∷ []))
       (written : bytes_of new ≡ with_part (bytes_of old) at ws)
-      (torn : Touched at (length ws) (bytes_of old) (bytes_of new)) (long : length w.stood.items ≡ length ws) where
-    steps : steps_of new ≡ Write at w.stood w.given ∷ steps_of old
-    steps = steps-more (journal_of old) (journal_of new) step journal ∙ ap (λ (step : Step). step ∷ steps_of old) w.is
+      (torn : Touched at (length ws) (bytes_of old) (bytes_of new)) (within : at + length ws ≤ length (bytes_of old)) where
+    abbrev stood : List ℕ
+    stood = part (bytes_of old) at (length ws)
 
-    back : with_part (bytes_of new) at w.stood.items ≡ bytes_of old
-    back = (λ k. with_part (written k) at (w.was k)) ∙ put-back (bytes_of old) at ws
+    long : length stood ≡ length ws
+    long = part-long (bytes_of old) at (length ws) within
+
+    steps : steps_of new ≡ Write at stood ws ∷ steps_of old
+    steps = steps-more (journal_of old) (journal_of new) (Write at stood ws) journal
+
+    back : with_part (bytes_of new) at stood ≡ bytes_of old
+    back = (λ k. with_part (written k) at stood) ∙ put-back (bytes_of old) at ws
 
     may-leave-written : (c : List ℕ) → MayLeave new c → AfterWrite at (length ws) (MayLeave old) c
     may-leave-written c now =
@@ -121,14 +131,13 @@ module _ (old new : HostDevice) where
         (a.0, subst (λ bs. Leaves bs (steps_of old) a.0) back a.1, subst (λ n. Touched at n a.0 c) long a.2)
 
     pub follows-written : Follows old new
-    follows-written host was =
-        ap (performed host) steps ∙ (λ k. with_part (was k) at (w.gives k)) ∙ sym written
+    follows-written host was = ap (performed host) steps ∙ (λ k. with_part (was k) at ws) ∙ sym written
 
     left-written : (s : HostDevice) (c : List ℕ) → MayHaveLeft s new c → MayHaveLeft s old c ⊎ AfterWrite at (length ws) (MayLeave old) c
-    left-written s c (inr lost) = inl (inr (lost-before s old new (goes-noting step journal follows-written) lost))
+    left-written s c (inr lost) = inl (inr (lost-before s old new (goes-noting (Write at stood ws) journal follows-written) lost))
     left-written s c (inl past) =
         let a = subst (λ es. LeavesSince (bytes_of new) (length es - length (steps_of s)) es c) steps past in
-        elim (left-more (bytes_of new) (length (steps_of s)) (Write at w.stood w.given) (steps_of old) c a) [
+        elim (left-more (bytes_of new) (length (steps_of s)) (Write at stood ws) (steps_of old) c a) [
           | inl before ↦ inl (inl (subst (λ bs. LeavesSince bs (length (steps_of old) - length (steps_of s)) (steps_of old) c) back before))
           | inr now ↦ inr (may-leave-written c (subst (λ es. Leaves (bytes_of new) es c) (sym steps) now))
         ]
@@ -175,14 +184,11 @@ module _ (old new : HostDevice) where
   -- nothing is noted any more
   pub rests-settled : Settles old new → Rests medium old new
   rests-settled settled =
-      let none : steps_of new ≡ [] = ap reverse settled.journal in
+      let same : bytes_of new ≡ bytes_of old = ap bytes_of settled in
+      let none : steps_of new ≡ [] = ap steps_of settled in
       record {
-        same = settled.bytes;
+        same = same;
         stays = (λ _. tt);
         was = (λ _. tt);
-        stop = (λ _ c now. left-now settled.bytes c (subst (λ es. Leaves (bytes_of new) es c) none now));
+        stop = (λ _ c now. left-now same c (subst (λ es. Leaves (bytes_of new) es c) none now));
       }
-
--- a part that lies within the bytes has its length
-pub part-long : (bs : List ℕ) (at n : ℕ) → at + n ≤ length bs → length (part bs at n) ≡ n
-part-long bs at n within = omega (arith, within, length-take n (drop at bs), length-drop at bs)

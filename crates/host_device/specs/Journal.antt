@@ -1,6 +1,5 @@
 -- What is noted for the host, and what a stop leaves while the host performs it.
-use Rattle.std.specs.Prelude.{◌≡◌, ◌⊎◌, ℕ, zero, suc, ◌-◌, List, [], ◌∷◌, ◌++◌, Vec, length, map, reverse, refl, Result, OnErr, OnOk}
-use Rattle.std.specs.Global.{Global}
+use Rattle.std.specs.Prelude.{◌≡◌, ◌⊎◌, ℕ, zero, suc, ◌-◌, List, [], ◌∷◌, ◌++◌, length, map, reverse, refl, Result, OnErr, OnOk}
 use Rattle.std.proofs.Common.{inl, inr, subst, sym}
 use Rattle.std.proofs.Math.Nat.{sub_self}
 use Rattle.std.proofs.lemmas.List.{append-nil}
@@ -10,28 +9,27 @@ use Rattle.vm_file.specs.declared.device.Disk.{Disk}
 use Rattle.vm_file.specs.Memory as memory
 use Rattle.vm_file.proofs.Touches.{touched_part}
 use Rattle.host_device.specs.declared.device.HostDevice.{HostDevice}
-use Rattle.host_device.specs.declared.step.Step.{Step}
-use Rattle.host_device.specs.declared.step.Step.TheVariants.{Write, Sync}
+use Rattle.host_device.specs.Notes.{Note, Write, Sync}
 
 -- what performing these steps, the last one first, makes of the bytes that a host holds
-abbrev pub performed : List ℕ → List Step → List ℕ
+abbrev pub performed : List ℕ → List Note → List ℕ
 performed host [] = host
-performed host (Write at stood bytes ∷ before) = with_part (performed host before) at bytes.items
+performed host (Write at stood bytes ∷ before) = with_part (performed host before) at bytes
 performed host (Sync ∷ before) = performed host before
 
 -- the bytes before a step, of those after it
-abbrev pub before_step : List ℕ → Step → List ℕ
-before_step bytes (Write at stood given) = with_part bytes at stood.items
+abbrev pub before_step : List ℕ → Note → List ℕ
+before_step bytes (Write at stood given) = with_part bytes at stood
 before_step bytes Sync = bytes
 
 -- what a stop leaves when these steps, the last one first, have led to these bytes: after a sync they last, and in a range that was written since then any bytes may stand
-abbrev pub Leaves : List ℕ → List Step → List ℕ → Type 0
+abbrev pub Leaves : List ℕ → List Note → List ℕ → Type 0
 Leaves bytes [] c = c ≡ bytes
-Leaves bytes (Write at stood given ∷ before) c = AfterWrite at (length stood.items) (Leaves (with_part bytes at stood.items) before) c
+Leaves bytes (Write at stood given ∷ before) c = AfterWrite at (length stood) (Leaves (with_part bytes at stood) before) c
 Leaves bytes (Sync ∷ before) c = c ≡ bytes
 
 -- the same before the last so many of these steps, or after one of them
-abbrev pub LeavesSince : List ℕ → ℕ → List Step → List ℕ → Type 0
+abbrev pub LeavesSince : List ℕ → ℕ → List Note → List ℕ → Type 0
 LeavesSince bytes (suc count) (step ∷ before) c = Leaves bytes (step ∷ before) c ⊎ LeavesSince (before_step bytes step) count before c
 LeavesSince bytes count steps c = Leaves bytes steps c
 
@@ -44,11 +42,11 @@ abbrev pub failures_of : HostDevice → ℕ
 failures_of device = device.failures
 
 -- what the host has not performed yet, in order
-abbrev pub journal_of : HostDevice → List Step
-journal_of device = device.journal.items
+abbrev pub journal_of : HostDevice → List Note
+journal_of device = device.log
 
 -- the same, the last step first
-abbrev pub steps_of : HostDevice → List Step
+abbrev pub steps_of : HostDevice → List Note
 steps_of device = reverse (journal_of device)
 
 -- whatever bytes the host holds: where performing what is noted gives what the device holds, it does so afterwards too
@@ -56,8 +54,8 @@ abbrev pub Follows : HostDevice → HostDevice → Type 0
 Follows old new = (host : List ℕ) → performed host (steps_of old) ≡ bytes_of old → performed host (steps_of new) ≡ bytes_of new
 
 -- what the host is told of a step: where it writes, and these bytes; and nothing of a sync
-abbrev pub told : Step → List ℕ
-told (Write at stood bytes) = at ∷ bytes.items
+abbrev pub told : Note → List ℕ
+told (Write at stood bytes) = at ∷ bytes
 told Sync = []
 
 -- the device goes on from an earlier state: what was noted then is still noted, and more behind it at most; and performing it leads a host
@@ -72,28 +70,17 @@ pub record IsStill (old new : HostDevice) : Type 0 where
   pub bytes : bytes_of new ≡ bytes_of old
   pub journal : journal_of new ≡ journal_of old
 
--- the step writes these bytes from an offset on, and has what the device holds there
-pub record IsWriteOf (device : HostDevice) (at : ℕ) (bytes : List ℕ) (step : Step) : Type 0 where
-  pub stood : Vec ℕ Global
-  pub given : Vec ℕ Global
-  pub is : step ≡ Write at stood given
-  pub was : stood.items ≡ part (bytes_of device) at (length bytes)
-  pub gives : given.items ≡ bytes
-
--- the write of these bytes from an offset on was noted as well, and no more
-pub record Notes (at : ℕ) (bytes : List ℕ) (old new : HostDevice) : Type 0 where
-  pub step : Step
-  pub writes : IsWriteOf old at bytes step
-  pub steps : steps_of new ≡ step ∷ steps_of old
+-- the write of these bytes from an offset on was noted as well, after what the device held there, and no more
+abbrev pub Notes : ℕ → List ℕ → HostDevice → HostDevice → Type 0
+Notes at bytes old new = steps_of new ≡ Write at (part (bytes_of old) at (length bytes)) bytes ∷ steps_of old
 
 -- a sync was noted as well, and no more
 abbrev pub NotesSync : HostDevice → HostDevice → Type 0
 NotesSync old new = steps_of new ≡ Sync ∷ steps_of old
 
--- nothing is noted any more, and reads give what they gave
-pub record Settles (old new : HostDevice) : Type 0 where
-  pub bytes : bytes_of new ≡ bytes_of old
-  pub journal : journal_of new ≡ []
+-- nothing is noted any more, and nothing else has changed
+abbrev pub Settles : HostDevice → HostDevice → Type 0
+Settles old new = new ≡ record old { log = [] }
 
 -- it returns what was last written, always
 abbrev pub IsHonest : HostDevice → Type 0
@@ -135,13 +122,13 @@ medium = record {
 }
 
 -- the bytes that steps led to are among those that a stop leaves
-pub leaves_now : (steps : List Step) (bytes : List ℕ) → Leaves bytes steps bytes
+pub leaves_now : (steps : List Note) (bytes : List ℕ) → Leaves bytes steps bytes
 leaves_now [] bytes = refl
 leaves_now (Write at stood given ∷ before) bytes =
-    let t = touched_part at bytes stood.items in
-    let back : Touched at (length stood.items) (with_part bytes at stood.items) bytes =
+    let t = touched_part at bytes stood in
+    let back : Touched at (length stood) (with_part bytes at stood) bytes =
     record { long = sym t.long; before = sym t.before; behind = sym t.behind } in
-    (with_part bytes at stood.items, leaves_now before (with_part bytes at stood.items), back)
+    (with_part bytes at stood, leaves_now before (with_part bytes at stood), back)
 leaves_now (Sync ∷ before) bytes = refl
 
 -- what reads give is what a stop may leave
@@ -159,7 +146,7 @@ at_once device c (inl since) =
     let P : ℕ → Type 0 = λ count. LeavesSince (bytes_of device) count (steps_of device) c in
     none (steps_of device) (subst P (sub_self (length (steps_of device))) since)
   where
-    none : (steps : List Step) → LeavesSince (bytes_of device) 0 steps c → Leaves (bytes_of device) steps c
+    none : (steps : List Note) → LeavesSince (bytes_of device) 0 steps c → Leaves (bytes_of device) steps c
     none [] left = left
     none (step ∷ before) left = left
 
@@ -167,7 +154,7 @@ at_once device c (inl since) =
 pub by_now : (start device : HostDevice) (c : List ℕ) → MayLeave device c → MayHaveLeft start device c
 by_now start device c now = inl (last (length (steps_of device) - length (steps_of start)) (steps_of device) now)
   where
-    last : (count : ℕ) (steps : List Step) → Leaves (bytes_of device) steps c → LeavesSince (bytes_of device) count steps c
+    last : (count : ℕ) (steps : List Note) → Leaves (bytes_of device) steps c → LeavesSince (bytes_of device) count steps c
     last zero [] left = left
     last zero (step ∷ before) left = left
     last (suc count) [] left = left

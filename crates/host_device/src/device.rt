@@ -1,9 +1,11 @@
 //! The device.
-ghost use Rattle.std.specs.Prelude.{◌≡◌, ◌+◌, ◌<◌, ◌≤◌, ◌↔◌, [], length, replicate, IfOk, IsTrue, OnErr, OnOk};
+ghost use Rattle.std.specs.Prelude.{◌≡◌, ◌+◌, ◌<◌, ◌≤◌, ◌↔◌, [], length, replicate, IfOk, IsTrue, OnErr, OnOk, slice_get};
+ghost use Rattle.host_device.specs.Notes.{Tells};
 ghost use Rattle.lmem_raw.specs.Bytes.{part, with_part};
 ghost use Rattle.vm_file.specs.Device.{Counts, Only, one_more};
 ghost use Rattle.vm_file.specs.Outcomes.{ReadsOnly, WritesOnly};
 
+use crate::log::{Log, STEPS_OF_A_COMMIT};
 use crate::step::Step;
 use std::alloc::{AllocError, Global};
 use vm_file::{Device, Disk, MemoryDevice, Noting};
@@ -12,16 +14,15 @@ use vm_file::{Device, Disk, MemoryDevice, Noting};
 /// performs them is a stop of the device at that call. It fails past its length, and where it has no memory to note a call.
 #[derive(Drop)]
 pub struct HostDevice {
-    alloc: Global,
     /// What reads give.
     cache: MemoryDevice,
     /// What the host has not performed yet, in order.
-    journal: Vec<Step>,
+    log: Log,
     failures: u64,
 }
 
 impl HostDevice {
-    ghost use Rattle.host_device.specs.Journal.{IsWriteOf, MayLeave, bytes_of, failures_of, journal_of, steps_of};
+    ghost use Rattle.host_device.specs.Journal.{MayLeave, bytes_of, failures_of, journal_of, steps_of};
 
     /// A device of so many zero bytes, for a host that holds the same. `AllocError` where there is no memory.
     pub fn new(alloc: Global, len: u64) -> Result<HostDevice, AllocError>
@@ -30,9 +31,8 @@ impl HostDevice {
         ensures failures { IfOk result (λ device. failures_of device ≡ 0) }
     {
         Ok(HostDevice {
-            alloc,
             cache: MemoryDevice::new(alloc, len)?,
-            journal: Vec::new(alloc),
+            log: Log::new(alloc),
             failures: 0,
         })
     }
@@ -50,11 +50,25 @@ impl HostDevice {
         }
     }
 
-    /// What the host has not performed yet, in order.
-    pub fn journal(&self) -> &[Step]
-        ensures { result.now ≡ journal_of self.now }
+    /// Whether the host has performed all that was noted.
+    pub fn is_performed(&self) -> bool
+        ensures { IsTrue result ↔ journal_of self.now ≡ [] }
     {
-        &self.journal
+        self.log.is_empty()
+    }
+
+    /// The call with a number, from 0 on, of those that the host has not performed yet.
+    pub fn step(&self, number: usize) -> Option<Step<'_>>
+        ensures { Tells result (slice_get (journal_of self.now) number) }
+    {
+        self.log.step(number)
+    }
+
+    /// Whether it has the memory for all that a commit notes. A commit writes an area and the selector, and with what stands there
+    /// that is no more than the device has. `settle` gets it where nothing is noted.
+    pub fn has_room(&self) -> bool {
+        self.log
+            .has_room(self.cache.as_slice().len(), STEPS_OF_A_COMMIT)
     }
 
     /// Whether a range lies within the length.
@@ -63,18 +77,6 @@ impl HostDevice {
     {
         let len = self.cache.as_slice().len();
         n <= len && at <= (len - n) as u64
-    }
-
-    /// The write of these bytes, as it is noted.
-    fn write_step(&self, at: u64, bytes: &[u8]) -> Result<Step, AllocError>
-        requires { at + length bytes.now ≤ length (bytes_of self.now) }
-        ensures { IfOk result (IsWriteOf self.now at bytes.now) }
-    {
-        let all = self.cache.as_slice();
-        let at_byte = at as usize;
-        let stood = all[at_byte..at_byte + bytes.len()].to_vec(self.alloc)?;
-        let given = bytes.to_vec(self.alloc)?;
-        Ok(Step::Write(at, stood, given))
     }
 }
 
@@ -128,11 +130,12 @@ impl Device for HostDevice {
         if !self.has(at, bytes.len()) {
             return fail(&mut self.failures);
         }
-        let step = match self.write_step(at, bytes) {
-            Ok(step) => step,
-            Err(_) => return fail(&mut self.failures),
-        };
-        match self.journal.push(step) {
+        let from = at as usize;
+        let all = self.cache.as_slice();
+        match self
+            .log
+            .note_write(at, &all[from..from + bytes.len()], bytes)
+        {
             Ok(()) => {}
             Err(_) => return fail(&mut self.failures),
         }
@@ -152,7 +155,7 @@ impl Device for HostDevice {
         ensures still { OnErr result (IsStill self.old self.new) }
         ensures cause { Counts (failures_of self.old) (failures_of self.new) result }
     {
-        match self.journal.push(Step::Sync) {
+        match self.log.note_sync() {
             Ok(()) => {}
             Err(_) => return fail(&mut self.failures),
         }
@@ -172,11 +175,17 @@ impl Noting for HostDevice {
 
     ghost settles = { Settles };
 
+    /// Forgets what is noted. If nothing is, it gets the memory for all that a commit notes.
     fn settle(&mut self)
         ensures rests { Rests medium self.old self.new }
         ensures failed { medium.failed self.new ≡ medium.failed self.old }
         ensures settled { Settles self.old self.new }
     {
-        self.journal.clear();
+        if !self.log.is_empty() {
+            return self.log.clear();
+        }
+        let len = self.cache.as_slice().len();
+        // If it is refused, `has_room` says so.
+        let _ = self.log.reserve(len, STEPS_OF_A_COMMIT);
     }
 }

@@ -2,6 +2,8 @@
 #![tactic(auto)]
 
 mod device;
+mod log;
+mod record;
 mod step;
 
 pub use device::HostDevice;

@@ -1,6 +1,5 @@
 use Rattle.std.proofs.Common.{◌≡◌, ◌∙◌, length, ap, sym}
 use Rattle.std.proofs.lemmas.List.{length-replicate}
-use Rattle.lmem_raw.specs.Bytes.{with_part}
 use Rattle.lmem_raw.proofs.Parts.{with_whole}
 use Rattle.host_device.specs.Journal.{bytes_of}
 use Rattle.host_device.proofs.device.HostDevice.holding.Goals as goal
