@@ -83,6 +83,7 @@ enum {
     TAKHVOI_REFUSED = 113,
     TAKHVOI_NOT_ADMITTED = 114,
     TAKHVOI_SHORT_BUFFER = 115,
+    TAKHVOI_NOT_GRANTED = 116,
     /* Why a file of the system is refused, by takhvoi_file_open and takhvoi_file_create. */
     TAKHVOI_NO_FILE = 200,
     TAKHVOI_FILE_IS_THERE = 201,
@@ -129,6 +130,7 @@ static inline const char *takhvoi_error_text(uint32_t status) {
     case TAKHVOI_REFUSED: return "the verifier refuses";
     case TAKHVOI_NOT_ADMITTED: return "no such image or routine, or it takes other words or blocks";
     case TAKHVOI_SHORT_BUFFER: return "the buffer is too short";
+    case TAKHVOI_NOT_GRANTED: return "it does something that is not granted";
     default: return "no such number";
     }
 }
@@ -233,9 +235,10 @@ TAKHVOI_CALL uint32_t takhvoi_isetmap(takhvoi_kernel *kernel, uint16_t group, ui
  * VM file or one of its blocks answers TAKHVOI_PENDING, and so do commits and runs. If a commit is refused, blocks and marks are as they were,
  * and what is kept is as follows.
  *
- *   - TAKHVOI_MEMORY: nothing was begun, and the commit may be called again.
- *   - TAKHVOI_DISK: memory was refused after the commit had begun. If takhvoi_is_sure tells 1, all is as after TAKHVOI_MEMORY. If it tells 0,
- *     the file has what was kept before or after.
+ *   - TAKHVOI_MEMORY: nothing was begun, and the commit may be called again. A commit gets the memory for its notes before it begins: as many
+ *     bytes as the file has. The kernel keeps that memory until it is closed.
+ *   - TAKHVOI_DISK: the device failed, which it does not do for want of memory. If takhvoi_is_sure tells 1, all is as after TAKHVOI_MEMORY. If it
+ *     tells 0, the file has what was kept before or after.
  *   - TAKHVOI_UNSURE: nothing was begun, since takhvoi_is_sure tells 0. No commit is taken; the file is to be closed and opened again.
  *
  * vlock, ilock and the calls on items may answer TAKHVOI_DISK too: then nothing has changed. After TAKHVOI_NO_MEMORY there is no new kernel,
@@ -254,6 +257,26 @@ TAKHVOI_CALL uint32_t takhvoi_performed(takhvoi_kernel *kernel);
 /* Images, by numbers that are good until they are unloaded, or the kernel is closed. `place` is the offset of the first faulty byte
  * (BAD_IMAGE), or the first instruction that rule `rule` refuses (REFUSED). */
 TAKHVOI_CALL uint32_t takhvoi_load(takhvoi_kernel *kernel, const uint8_t *bytes, size_t len, uint32_t *image, uint64_t *place, uint32_t *rule);
+/* What a routine does to what is not its own, as bits: docs/GRANTS.md explains each. READS_LENT and CHANGES_LENT have the bits of all four slots;
+ * that of slot k is 1 << (8 + k) and 1 << (12 + k). */
+enum {
+    TAKHVOI_EFFECT_OUTPUT = 1,
+    TAKHVOI_EFFECT_MEMORY = 2,
+    TAKHVOI_EFFECT_LOCKS_BY_HANDLE = 4,
+    TAKHVOI_EFFECT_READS_FILE = 8,
+    TAKHVOI_EFFECT_CHANGES_FILE = 16,
+    TAKHVOI_EFFECT_MAP = 32,
+    TAKHVOI_EFFECT_COMMITS = 64,
+    TAKHVOI_EFFECT_READS_LENT = 3840,
+    TAKHVOI_EFFECT_CHANGES_LENT = 61440
+};
+/* Loads an image as takhvoi_load does, if its public routines, with those that they call, do only what has its bit in `grants`. NOT_GRANTED tells
+ * the first public `routine` that does more, the bit of an effect that is not granted, and as `place` the instruction with it. Whatever a routine
+ * of this image does when it runs, what was not granted is as before. */
+TAKHVOI_CALL uint32_t takhvoi_load_granted(takhvoi_kernel *kernel, const uint8_t *bytes, size_t len, uint32_t grants, uint32_t *image,
+                                           uint64_t *place, uint32_t *rule, uint16_t *routine, uint32_t *effect);
+/* What a routine of an image does, with those that it calls. NOT_ADMITTED if there is no such image or routine. */
+TAKHVOI_CALL uint32_t takhvoi_effects(takhvoi_kernel *kernel, uint32_t image, uint16_t routine, uint32_t *effects);
 /* Frees an image: its number is given again. */
 TAKHVOI_CALL uint32_t takhvoi_unload(takhvoi_kernel *kernel, uint32_t image);
 /* The number of the routine with a name: no two of an image have the same. NOT_ADMITTED if there is no such image or routine. */
@@ -262,7 +285,9 @@ TAKHVOI_CALL uint32_t takhvoi_routine(takhvoi_kernel *kernel, uint32_t image, co
  * routine borrows, and 0 for the others; no other block of the file is locked, and none more often than it is lent. Otherwise the answer is
  * NOT_ADMITTED, as it is if there is no such image or public routine, or a word is past its bound. Of the `count` words that the routine puts
  * out, as many as there is room for come into `output`. What it commits is noted, as by the commits above: for a takhvoi_file take
- * takhvoi_file_run. After this call, as after takhvoi_save, changes answer TAKHVOI_PENDING until takhvoi_file_flush has performed that. */
+ * takhvoi_file_run. After this call, as after takhvoi_save, changes answer TAKHVOI_PENDING until takhvoi_file_flush has performed that.
+ * TAKHVOI_MEMORY says that the memory for the notes of one commit was refused, and nothing was begun. Each later commit of the same run gets
+ * its own before it begins: if that is refused, the routine is answered 11, and nothing of this commit was begun. */
 TAKHVOI_CALL uint32_t takhvoi_run(takhvoi_kernel *kernel, uint32_t image, uint16_t routine, uint16_t words[8], const uint16_t lent[4],
                                   uint16_t *output, size_t room, uint32_t *count, uint32_t *steps);
 

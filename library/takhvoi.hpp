@@ -223,6 +223,10 @@ struct Outcome {
 /// A public routine of an image, while that is loaded.
 class Routine {
 public:
+    /// What it does to what is not its own, with the routines that it calls: bits TAKHVOI_EFFECT_...
+    Result<std::uint32_t> effects() const {
+        return detail::told<std::uint32_t>([&](std::uint32_t *bits) { return takhvoi_effects(&file_->kernel, image_, routine_, bits); });
+    }
     using Words = std::array<std::uint16_t, 8>;
     /// The locked blocks of the VM file that are lent for s0, s1, s2, s3; nullptr for a slot that borrows none.
     using Lent = std::initializer_list<const LockedBlock *>;
@@ -403,12 +407,24 @@ public:
         return Image(file_.get(), number);
     }
 
+    /// Loads an image whose public routines do only what has its bit in `grants` (TAKHVOI_EFFECT_..). The fault of TAKHVOI_NOT_GRANTED has the
+    /// routine, the instruction as its place, and the effect.
+    Result<Image> load_granted(Bytes image, std::uint32_t grants) & {
+        Fault fault;
+        std::uint32_t number = 0;
+        fault.status = takhvoi_load_granted(get(), image.data(), image.size(), grants, &number, &fault.place, &fault.rule, &fault.routine,
+                                            &fault.effect);
+        if (fault.status != TAKHVOI_DONE) return fault;
+        return Image(file_.get(), number);
+    }
+
     // Of a temporary, which is closed at once, nothing is had.
     Result<LockedBlock> make_block() && = delete;
     Result<LockedBlock> make_file_block(std::uint16_t) && = delete;
     Result<LockedBlock> lock(Name) && = delete;
     Result<LockedBlock> lock_item(std::uint16_t, std::uint16_t) && = delete;
     Result<Image> load(Bytes) && = delete;
+    Result<Image> load_granted(Bytes, std::uint32_t) && = delete;
 
 private:
     explicit Kernel(takhvoi_file *file) noexcept : file_(file) {}

@@ -13,11 +13,14 @@
 
 namespace takhvoi {
 
-/// Why a call was not done: a number of takhvoi.h, and for files, images and texts the place of the fault, and the verifier's rule.
+/// Why a call was not done: a number of takhvoi.h, and for files, images and texts the place of the fault, and the verifier's rule, or the
+/// routine with an effect that is not granted.
 struct Fault {
     std::uint32_t status = TAKHVOI_DONE;
     std::uint64_t place = 0;
     std::uint32_t rule = 0;
+    std::uint16_t routine = 0;
+    std::uint32_t effect = 0;
 
     const char *text() const noexcept { return takhvoi_error_text(status); }
 };

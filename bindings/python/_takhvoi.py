@@ -38,6 +38,7 @@ TEXTS = {
     113: "the verifier refuses",
     114: "no such image or routine, or it takes other words or blocks",
     115: "the buffer is too short",
+    116: "it does something that is not granted",
     200: "no such file or folder",
     201: "the file is there already",
     202: "another has the file's lock",
@@ -47,16 +48,27 @@ TEXTS = {
 
 
 NO_KERNEL, NOT_LOCKED, BAD_SIZE, BAD_FILE, BAD_IMAGE, REFUSED, NOT_ADMITTED, SHORT_BUFFER = 100, 101, 105, 110, 112, 113, 114, 115
+NOT_GRANTED = 116
 
 
 class Error(Exception):
-    """Why a call was not done: its number, its text, and for files, images and texts the place of the fault and the verifier's rule."""
+    """Why a call was not done: its number, its text, for files, images and texts the place of the fault and the verifier's rule, and the routine
+    with an effect that is not granted."""
 
-    def __init__(self, number: int, place: Optional[int] = None, rule: Optional[int] = None) -> None:
+    def __init__(
+        self,
+        number: int,
+        place: Optional[int] = None,
+        rule: Optional[int] = None,
+        routine: Optional[int] = None,
+        effect: Optional[int] = None,
+    ) -> None:
         self.number = number
         self.text = TEXTS.get(number, "no such number")
         self.place = place
         self.rule = rule
+        self.routine = routine
+        self.effect = effect
         beside = "" if place is None else f": at {place}" if rule is None else f": at {place}, by rule {rule}"
         super().__init__(self.text + beside)
 
@@ -102,6 +114,8 @@ _CALLS = {
     (U32, U16, U16, U16, _ROOM, _SIZE): "caread",
     (U32, U16, U16, U16, _BYTES, _SIZE): "cawrite",
     (_BYTES, _SIZE, _OUT32, _OUT64, _OUT32): "load",
+    (_BYTES, _SIZE, U32, _OUT32, _OUT64, _OUT32, _OUT16, _OUT32): "load_granted",
+    (U32, U16, _OUT32): "effects",
     (_OUT16, _SIZE, _OUT32): "mlist vlist",
     (U16, _OUT16, _SIZE, _OUT32): "ilist",
     (U32, _OUT16, _SIZE, _OUT32): "llist",

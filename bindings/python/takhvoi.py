@@ -16,20 +16,37 @@ until those of other threads on it have ended. The library is looked for where t
 from __future__ import annotations
 
 import ctypes
+import enum
 import os
 import threading
 from collections.abc import Callable, Iterator, Sequence
 from types import TracebackType
 from typing import NamedTuple, Optional, Union
 
-from _takhvoi import BAD_FILE, BAD_IMAGE, NO_KERNEL, NOT_ADMITTED, NOT_LOCKED, REFUSED, SHORT_BUFFER, U16, U32
+from _takhvoi import BAD_FILE, BAD_IMAGE, NO_KERNEL, NOT_ADMITTED, NOT_GRANTED, NOT_LOCKED, REFUSED, SHORT_BUFFER, U16, U32
 from _takhvoi import Error, RawFile, bytes_of, library, room, sixteen
 
 __version__ = "0.1.0"
-__all__ = ["Array", "Chunk", "Error", "Explanation", "Image", "Kernel", "LockedBlock", "Outcome", "assemble", "explain", "explain_text", "list_image"]
+__all__ = ["Array", "Chunk", "Effect", "Error", "Explanation", "Image", "Kernel", "LockedBlock", "Outcome", "assemble", "explain", "explain_text", "list_image"]
 
 REGION = 1 << 20
 AREA = 1 << 16
+
+
+class Effect(enum.IntFlag):
+    """What a routine does to what is not its own; docs/GRANTS.md explains each."""
+
+    OUTPUT = 1
+    MEMORY = 2
+    LOCKS_BY_HANDLE = 4
+    READS_FILE = 8
+    CHANGES_FILE = 16
+    MAP = 32
+    COMMITS = 64
+    READS_LENT = 0xF00
+    CHANGES_LENT = 0xF000
+    ALL = 0xFF7F
+
 
 Data = Union[bytes, bytearray, memoryview]
 Path = Union[str, bytes, "os.PathLike[str]"]
@@ -236,11 +253,14 @@ class Kernel:
         """Whether the VM file is sure of what it keeps. Where it is not, it takes no commit, and is opened again."""
         return self._told("is_sure") != 0
 
-    def load(self, image: Data) -> Image:
-        """Loads an image, which the verifier checks."""
-        given, number, place, rule = bytes(image), U32(), ctypes.c_uint64(), U32()
+    def load(self, image: Data, grants: Effect = Effect.ALL) -> Image:
+        """Loads an image, which the verifier checks. Its public routines do only what has its bit in `grants`: else the Error has the routine and
+        the effect."""
+        given, number, place, rule, routine, effect = bytes(image), U32(), ctypes.c_uint64(), U32(), U16(), U32()
         with self._turn:
-            status = library.takhvoi_load(self._raw, given, len(given), number, place, rule)
+            status = library.takhvoi_load_granted(self._raw, given, len(given), grants.value, number, place, rule, routine, effect)
+        if status == NOT_GRANTED:
+            raise Error(status, place.value, None, routine.value, Effect(effect.value))
         if status:
             raise Error(status, place.value if status in (BAD_IMAGE, REFUSED) else None, rule.value if status == REFUSED else None)
         return Image(self, number.value)
@@ -453,6 +473,12 @@ class Image:
         """The number of the routine with a name: no two of an image have the same."""
         spelled = name.encode()
         return self._kernel._told("routine", self._given(), spelled, len(spelled))
+
+    def effects(self, routine: Union[int, str]) -> Effect:
+        """What a routine does to what is not its own, with those that it calls."""
+        number, bits = self.routine(routine) if isinstance(routine, str) else sixteen(routine), U32()
+        self._kernel._call("effects", self._given(), number, bits)
+        return Effect(bits.value)
 
     def run(
         self,

@@ -30,6 +30,15 @@ macro_rules! refusals {
                 /// the number of the rule
                 rule: u32,
             },
+            /// a public routine does something that is not granted
+            NotGranted {
+                /// its number
+                routine: u16,
+                /// the one that does it, in the routine or in one that it calls
+                instruction: u64,
+                /// its bit
+                effect: u32,
+            },
             /// a text with a fault
             BadText {
                 /// of the fault, from 1 on
@@ -54,6 +63,7 @@ macro_rules! refusals {
                     Error::BadFile { .. } => 110,
                     Error::BadImage { .. } | Error::BadText { .. } => 112,
                     Error::Refused { .. } | Error::NoRows { .. } => 113,
+                    Error::NotGranted { .. } => 116,
                     Error::OtherInterface => u32::MAX,
                     Error::Other(number) => number,
                 }
@@ -66,6 +76,7 @@ macro_rules! refusals {
                     110 => Error::BadFile { offset: 0 },
                     112 => Error::BadImage { offset: 0 },
                     113 => Error::Refused { instruction: 0, rule: 0 },
+                    116 => Error::NotGranted { routine: 0, instruction: 0, effect: 0 },
                     _ => Error::Other(number),
                 }
             }
@@ -77,6 +88,7 @@ macro_rules! refusals {
                     Error::BadFile { .. } => "no VM file",
                     Error::BadImage { .. } | Error::BadText { .. } => "no image, or a faulty text",
                     Error::Refused { .. } | Error::NoRows { .. } => "the verifier refuses",
+                    Error::NotGranted { .. } => "it does something that is not granted",
                     Error::OtherInterface => "the library has another interface",
                     Error::Other(_) => "no such number",
                 }
@@ -125,6 +137,9 @@ impl fmt::Display for Error {
             Error::BadImage { offset } => write!(out, "no image: byte {offset}"),
             Error::BadText { line } => write!(out, "a faulty text: line {line}"),
             Error::Refused { instruction, rule } => write!(out, "the verifier refuses: instruction {instruction}, rule {rule}"),
+            Error::NotGranted { routine, instruction, effect } => {
+                write!(out, "routine {routine} does something that is not granted: instruction {instruction}, effect {effect}")
+            }
             Error::NoRows { line } => write!(out, "no rows are found for a routine: line {line}"),
             Error::Other(number) => write!(out, "no such number: {number}"),
             _ => out.write_str(self.text()),

@@ -12,6 +12,28 @@ pub struct Image {
     serial: u64,
 }
 
+/// What a routine does to what is not its own, as bits; docs/GRANTS.md explains each.
+pub mod effects {
+    /// Outputs words.
+    pub const OUTPUT: u32 = 1;
+    /// Makes, locks, unlocks, frees or changes memory blocks.
+    pub const MEMORY: u32 = 2;
+    /// Locks memory blocks by their handles.
+    pub const LOCKS_BY_HANDLE: u32 = 4;
+    /// Finds, locks or reads what is not lent of the VM file.
+    pub const READS_FILE: u32 = 8;
+    /// Changes what is not lent of the VM file.
+    pub const CHANGES_FILE: u32 = 16;
+    /// Changes the map block or the map item.
+    pub const MAP: u32 = 32;
+    /// Updates, saves or reverts the VM file.
+    pub const COMMITS: u32 = 64;
+    /// The bits of all four slots.
+    pub const READS_LENT: u32 = 0xF00;
+    /// The bits of all four slots.
+    pub const CHANGES_LENT: u32 = 0xF000;
+}
+
 /// A routine of an image.
 #[derive(Clone, Copy, Debug)]
 pub struct Routine<'i> {
@@ -62,6 +84,26 @@ impl Kernel {
             113 => Err(Error::Refused { instruction: place, rule }),
             status => done(status).map(|()| Image { number, serial: self.serial }),
         }
+    }
+
+    /// Loads an image whose public routines, with those that they call, do only what has its bit in `grants`: see [`effects`].
+    pub fn load_granted(&self, image: &[u8], grants: u32) -> Result<Image> {
+        let (mut number, mut place, mut rule, mut routine, mut effect) = (0, 0, 0, 0, 0);
+        let (bytes, len) = (image.as_ptr(), image.len());
+        match unsafe {
+            raw::takhvoi_load_granted(self.raw(), bytes, len, grants, &mut number, &mut place, &mut rule, &mut routine, &mut effect)
+        } {
+            112 => Err(Error::BadImage { offset: place }),
+            113 => Err(Error::Refused { instruction: place, rule }),
+            116 => Err(Error::NotGranted { routine, instruction: place, effect }),
+            status => done(status).map(|()| Image { number, serial: self.serial }),
+        }
+    }
+
+    /// What a routine does to what is not its own, with those that it calls: bits of [`effects`].
+    pub fn effects_of(&self, routine: Routine<'_>) -> Result<u32> {
+        let (own, mut bits) = (self.own(routine.image)?, 0);
+        done(unsafe { raw::takhvoi_effects(self.raw(), own, routine.number, &mut bits) }).map(|()| bits)
     }
 
     /// That this kernel has loaded the image.

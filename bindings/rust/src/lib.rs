@@ -118,6 +118,6 @@ mod texts;
 pub use blocks::{Locked, Marked};
 pub use chunks::{Array, ArrayMut, Chunk, ChunkMut};
 pub use error::{Error, Result};
-pub use images::{Image, Lent, Outcome, Routine};
+pub use images::{effects, Image, Lent, Outcome, Routine};
 pub use kernel::{Kernel, Memory, Name, Sizes, VmFile};
 pub use texts::{assemble, explain, explain_text, list, Explanation};

@@ -92,6 +92,18 @@ extern "C" {
     pub fn takhvoi_step_bytes(kernel: *mut RawKernel, number: u32, from: u64, into: *mut u8, len: usize) -> u32;
     pub fn takhvoi_performed(kernel: *mut RawKernel) -> u32;
     pub fn takhvoi_load(kernel: *mut RawKernel, bytes: *const u8, len: usize, image: *mut u32, place: *mut u64, rule: *mut u32) -> u32;
+    pub fn takhvoi_load_granted(
+        kernel: *mut RawKernel,
+        bytes: *const u8,
+        len: usize,
+        grants: u32,
+        image: *mut u32,
+        place: *mut u64,
+        rule: *mut u32,
+        routine: *mut u16,
+        effect: *mut u32,
+    ) -> u32;
+    pub fn takhvoi_effects(kernel: *mut RawKernel, image: u32, routine: u16, effects: *mut u32) -> u32;
     pub fn takhvoi_unload(kernel: *mut RawKernel, image: u32) -> u32;
     pub fn takhvoi_routine(kernel: *mut RawKernel, image: u32, name: *const u8, name_len: usize, routine: *mut u16) -> u32;
     pub fn takhvoi_run(

@@ -34,7 +34,8 @@ fn each_number_has_its_text() {
     for line in header.lines() {
         let Some((name, number)) = line.trim().trim_end_matches(',').split_once(" = ") else { continue };
         let (Some(name), Ok(number)) = (name.strip_prefix("TAKHVOI_"), number.parse::<u32>()) else { continue };
-        if number == 0 {
+        // Bits of effects are no numbers of faults.
+        if number == 0 || name.starts_with("EFFECT_") {
             continue;
         }
         let case = format!("case TAKHVOI_{name}: return \"");

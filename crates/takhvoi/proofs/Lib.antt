@@ -5,9 +5,11 @@ pub mod Looking
 pub mod Named
 pub mod Notes
 pub mod Numbers
+pub mod Ran
 pub mod Refusing
 pub mod Relocked
 pub mod Shapes
 pub mod Starting
 pub mod Steps
+pub mod Told
 pub mod Values

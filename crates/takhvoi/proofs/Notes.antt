@@ -16,6 +16,8 @@ use Rattle.host_device.specs.declared.device.HostDevice.{HostDevice}
 use Rattle.host_device.proofs.Going.{goes-if, goes-past, goes-reading}
 use Rattle.takhvoi.specs.declared.system.System.{System}
 use Rattle.takhvoi.specs.Answers.{ReadsDevice}
+use Rattle.takhvoi.specs.Journal.{HasCommitted}
+use Rattle.vm_file.specs.declared.commit.How.{How}
 
 -- what a file is found in has its header at least
 found-long : (c : List ℕ) (p : Pair) → (file_at c >>= (λ (file : File). Ok file.pair)) ≡ Ok p → 512 < length c
@@ -43,6 +45,11 @@ reads-device old new reads = record {
   goes_on = goes-reading old.kernel.device new.kernel.device reads;
   stops = λ c left. ⊎_elim (at_once old.kernel.device c) (λ now. now) (reads.time tt old.kernel.device c left);
 }
+
+-- what a commit came to from a kernel that is the system's
+pub commits-from : (how : How) (status : ℕ) (old new : System) (k : KernelOn HostDevice) → k ≡ old.kernel
+    → HasCommitted how status (record old { kernel = k }) new → HasCommitted how status old new
+commits-from how status old new k same came = subst (λ (k : KernelOn HostDevice). HasCommitted how status (record old { kernel = k }) new) same came
 
 -- nothing was noted before
 module _ (old new : HostDevice) (begins : journal_of old ≡ []) where

@@ -15,12 +15,20 @@ use Rattle.geos_kernel.specs.View.{IsFileOf, memory_of}
 use Rattle.geos_machine.specs.declared.outcome.Outcome.{Outcome}
 use Rattle.geos_machine.specs.Lent.{Lends}
 use Rattle.geos_machine.specs.Runs.{OpensAsOneOf, RanWith, Throughout, begin, kept_along}
+use Rattle.geos_grants.specs.declared.effect.Effect.{Effect}
+use Rattle.geos_grants.specs.declared.effects.Effects.{Effects}
+use Rattle.geos_grants.specs.declared.granted.Excess.{Excess}
+use Rattle.geos_grants.specs.Grants.{IsExcess, IsGranted}
+use Rattle.geos_grants.specs.Routines.{has_effect}
+use Rattle.geos_grants.specs.Sets.{has}
+use Rattle.granted_runs.specs.Keeps.{RanWithin}
 use Rattle.host_device.specs.Journal.{bytes_of, journal_of, medium}
 use Rattle.host_device.specs.declared.device.HostDevice.{HostDevice}
 use Rattle.takhvoi.specs.declared.system.System.{System}
 use Rattle.takhvoi.specs.declared.handle.Handle.{Handle}
 use Rattle.takhvoi.specs.Answers.{Done, On}
-use Rattle.takhvoi.specs.Journal.{Leads, MayStopAt}
+use Rattle.takhvoi.specs.Bits.{bit_of, bits_of, effects_in}
+use Rattle.takhvoi.specs.Journal.{IsUnbegun, Leads, MayStopAt}
 use Rattle.takhvoi.specs.Own.{IsPending}
 
 -- the number stands for this image
@@ -41,6 +49,26 @@ LoadsOrTells status = (status ≡ 0) ⊎ ((status ≡ 111) ⊎ ((status ≡ 112)
 abbrev pub IsLoaded : List ℕ → ℕ → ℕ → System → System → Type 0
 IsLoaded bytes n status old new =
     (status ≡ 0 → (image : Parts) × (image_at bytes ≡ Ok image) × StandsFor new n image) × LoadsOrTells status × Keeps old new
+
+-- the same of an image whose public routines are to do only what is granted: if one does more, the answer is 116
+abbrev pub IsLoadedGranted : List ℕ → ℕ → ℕ → ℕ → System → System → Type 0
+IsLoadedGranted bytes grants n status old new =
+    (status ≡ 0 → (image : Parts) × (image_at bytes ≡ Ok image) × StandsFor new n image × IsGranted image (effects_in grants))
+    × ((status ≡ 116) ⊎ LoadsOrTells status) × Keeps old new
+
+-- the bytes spell an image, and a public routine of it has this effect, which is not granted, by the instruction at this place
+abbrev pub IsDenied : List ℕ → ℕ → ℕ → ℕ → ℕ → Type 0
+IsDenied bytes grants place r bit =
+    (image : Parts) × (excess : Excess) × (image_at bytes ≡ Ok image) × IsExcess image (effects_in grants) excess × (place ≡ excess.pc)
+    × (r ≡ excess.routine) × (bit ≡ bit_of excess.effect)
+
+-- it is told what the routine does, with those that it calls; or the answer is 114, and there is no such image or routine
+abbrev pub TellsEffects : ℕ → ℕ → ℕ → ℕ → System → System → Type 0
+TellsEffects n r told status old new =
+    (new ≡ old)
+    × (status ≡ 0 → (image : Parts) × (effects : Effects) × StandsFor old n image × (told ≡ bits_of effects)
+    × ((effect : Effect) → has effects effect ≡ has_effect image effect r))
+    × ((status ≡ 0 → ⊥) → (status ≡ 114) × ((image : Parts) → StandsFor old n image → length image.routines ≤ r))
 
 -- where it is done, the number stands for nothing from then on; the kernel and the other images stay. Otherwise it stands for nothing, the
 -- answer is 114, and nothing changes
@@ -68,8 +96,9 @@ abbrev pub MayNotRun : ℕ → ℕ → List ℕ → List ℕ → ℕ → System 
 MayNotRun n routine words handles status s = NotAdmitted n routine words handles status s ⊎ IsPending status s
 
 -- the number stands for a checked image, of which the model's run, on these words and with these blocks lent, met no fault and came to
--- such words, such an output at the beginning of the buffer, whose rest stays, so long, and so many steps; nothing was noted before it; what it
--- noted leads a host to what the device holds; and a host that is stopped while it performs that has what the run had as kept in one of its states
+-- such words, such an output at the beginning of the buffer, whose rest stays, so long, and so many steps; whatever is granted, if the
+-- routine does only that, what is not granted is as before; nothing was noted before it; what it noted leads a host to what the device holds;
+-- and a host that is stopped while it performs that has what the run had as kept in one of its states
 pub record HasRun (n routine : ℕ) (words handles after room output : List ℕ) (count steps status : ℕ) (old new : System) : Type 0 where
   pub done : status ≡ 0
   pub image : Parts
@@ -78,6 +107,8 @@ pub record HasRun (n routine : ℕ) (words handles after room output : List ℕ)
   pub left : HostDevice
   pub ran : (f : VmFile) → IsFileOf (Unit {0}) old.kernel.core f
       → RanWith (Unit {0}) (Throughout medium old.kernel.device left) image routine words handles old.kernel.core new.kernel.core outcome f
+  pub granted : (f : VmFile) → IsFileOf (Unit {0}) old.kernel.core f
+      → RanWithin (Unit {0}) (Throughout medium old.kernel.device left) image routine words handles old.kernel.core new.kernel.core outcome f
   pub device : old.hosted ≡ true → new.kernel.device ≡ left
   pub begins : journal_of old.kernel.device ≡ []
   pub leads : old.hosted ≡ true → Leads (bytes_of old.kernel.device) new.kernel.device
@@ -90,10 +121,16 @@ pub record HasRun (n routine : ℕ) (words handles after room output : List ℕ)
   pub steps_are : steps ≡ outcome.steps
   pub within : IfSome (slice_get image.routines routine) (λ r. steps ≤ r.budget)
 
+-- it ran so; or memory for its notes was refused, and it was not begun
+abbrev pub RunsOrNot : ℕ → ℕ → List ℕ → List ℕ → List ℕ → List ℕ → List ℕ → ℕ → ℕ → ℕ → System → System → Type 0
+RunsOrNot n routine words handles after room output count steps status old new =
+    HasRun n routine words handles after room output count steps status old new
+    ⊎ (IsUnbegun status old new × (after ≡ words) × (output ≡ room))
+
 -- the run on a kernel, or why it does not begin
 abbrev pub EndsRun : ℕ → ℕ → List ℕ → List ℕ → List ℕ → List ℕ → List ℕ → ℕ → ℕ → ℕ → System → System → Type 0
 EndsRun n routine words handles after room output count steps =
-    Done (MayNotRun n routine words handles) (HasRun n routine words handles after room output count steps)
+    Done (MayNotRun n routine words handles) (RunsOrNot n routine words handles after room output count steps)
 
 -- the same on the kernel that a handle holds
 abbrev pub ServesRun : ℕ → ℕ → List ℕ → List ℕ → List ℕ → List ℕ → List ℕ → ℕ → ℕ → ℕ → Handle → Handle → Type 0

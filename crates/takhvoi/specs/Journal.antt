@@ -10,29 +10,28 @@ use Rattle.geos_kernel.specs.Files.{Between}
 use Rattle.geos_kernel.specs.View.{IsFileOf, KernelOn}
 use Rattle.host_device.specs.Journal.{LeavesSince, Settles, bytes_of, journal_of, medium, performed, steps_of}
 use Rattle.host_device.specs.declared.device.HostDevice.{HostDevice}
-use Rattle.host_device.specs.declared.step.Step.{Step}
-use Rattle.host_device.specs.declared.step.Step.TheVariants.{Write, Sync}
+use Rattle.host_device.specs.Notes.{Note, Write, Sync}
 use Rattle.takhvoi.specs.Answers.{IsReply}
 use Rattle.takhvoi.specs.declared.system.System.{System}
 
 -- what is told of a step, if there is one: 1 for a write, with where it begins and how many bytes it has; 2 for a sync; and 0 for none
-abbrev pub IsStep : Option Step → ℕ → ℕ → ℕ → Type 0
+abbrev pub IsStep : Option Note → ℕ → ℕ → ℕ → Type 0
 IsStep None kind at len = kind ≡ 0
-IsStep (Some (Write from stood bytes)) kind at len = (kind ≡ 1) × (at ≡ from) × (len ≡ length bytes.items)
+IsStep (Some (Write from stood bytes)) kind at len = (kind ≡ 1) × (at ≡ from) × (len ≡ length bytes)
 IsStep (Some Sync) kind at len = kind ≡ 2
 
 -- these are bytes of a step that is a write, from one of them on
-abbrev pub HasBytes : Option Step → ℕ → List ℕ → Type 0
-HasBytes (Some (Write at stood bytes)) from part_of = part_of ≡ part bytes.items from (length part_of)
+abbrev pub HasBytes : Option Note → ℕ → List ℕ → Type 0
+HasBytes (Some (Write at stood bytes)) from part_of = part_of ≡ part bytes from (length part_of)
 HasBytes step from part_of = ⊥
 
 -- there is no such step that is a write, or it has not so many bytes from one of them on
-abbrev pub LacksBytes : Option Step → ℕ → ℕ → Type 0
-LacksBytes (Some (Write at stood bytes)) from n = length bytes.items < from + n
+abbrev pub LacksBytes : Option Note → ℕ → ℕ → Type 0
+LacksBytes (Some (Write at stood bytes)) from n = length bytes < from + n
 LacksBytes step from n = Unit {0}
 
 -- the step of the journal with a number
-abbrev pub step_at : System → ℕ → Option Step
+abbrev pub step_at : System → ℕ → Option Note
 step_at system n = slice_get (journal_of system.kernel.device) n
 
 -- 105: the step with a number does not have these bytes
@@ -62,6 +61,14 @@ pub record IsNoted (old new : KernelOn HostDevice) : Type 0 where
   pub between : Between medium old new
 
 -- the commit answered as its row says, with nothing noted before; what it noted is for the host, and forgotten if there is none
-abbrev pub IsCommitted : How → ℕ → System → System → Type 0
-IsCommitted how status old new = IsReply (commit (keeper_of how)) status old new × (journal_of old.kernel.device ≡ [])
+abbrev pub HasCommitted : How → ℕ → System → System → Type 0
+HasCommitted how status old new = IsReply (commit (keeper_of how)) status old new × (journal_of old.kernel.device ≡ [])
     × (old.hosted ≡ true → IsNoted old.kernel new.kernel) × (old.hosted ≡ false → journal_of new.kernel.device ≡ [])
+
+-- 13: memory was refused before the commit began
+abbrev pub IsUnbegun : ℕ → System → System → Type 0
+IsUnbegun status old new = (status ≡ 13) × (new.kernel ≡ old.kernel)
+
+-- the commit answered so, or was not begun
+abbrev pub IsCommitted : How → ℕ → System → System → Type 0
+IsCommitted how status old new = HasCommitted how status old new ⊎ IsUnbegun status old new

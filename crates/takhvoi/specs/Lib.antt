@@ -1,4 +1,5 @@
 pub mod Answers
+pub mod Bits
 pub mod Bytes
 pub mod Held
 pub mod Images

@@ -1,23 +1,32 @@
 //! Images are loaded, and their routines run.
 
 ghost use Rattle.std.specs.Option.{option_copied};
-ghost use Rattle.std.specs.Prelude.{◌≡◌, ◌≤◌, ◌⊎◌, ℕ, Err, Some, IfNone, IfSome, IsSomeAnd, length, slice_get};
+ghost use Rattle.std.specs.Prelude.{◌≡◌, ◌≤◌, ◌⊎◌, ℕ, true, Ok, Err, Some, IfErr, IfOk, IfNone, IfSome, IsSomeAnd, length, slice_get};
 ghost use Rattle.lmem_raw.specs.Bytes.{with_part};
 ghost use Rattle.geos_image.specs.Parts.{Parts};
 ghost use Rattle.geos_image.specs.Reading.{image_at};
 ghost use Rattle.takhvoi.specs.Answers.{On};
+ghost use Rattle.geos_calls.specs.VmFile.{VmFile};
+ghost use Rattle.geos_entry.specs.Entry.{admits, entry_slots};
+ghost use Rattle.geos_kernel.specs.View.{IsFileOf};
+ghost use Rattle.geos_machine.specs.Lent.{Lends};
+ghost use Rattle.geos_machine.specs.Runs.{Gave, Throughout};
+ghost use Rattle.granted_runs.specs.Keeps.{RanWithin};
 ghost use Rattle.geos_verify.specs.RuleText.{rule_number};
 ghost use Rattle.takhvoi.specs.Images.{EndsRun, FindsRoutine, IsLoaded, IsNamed, IsRejected, IsUnloaded, NoneIsNamed, ServesRun};
 
 use crate::handle::Handle;
 use crate::held::{put, take};
-use crate::journal::{is_performed, rest};
-use crate::status::{BAD_IMAGE, DONE, NO_KERNEL, NO_MEMORY, NOT_ADMITTED, PENDING, REFUSED};
+use crate::journal::{is_performed, make_room, rest};
+use crate::status::{self, BAD_IMAGE, DONE, NO_KERNEL, NO_MEMORY, NOT_ADMITTED, PENDING, REFUSED};
 use crate::system::System;
 use geos_image::{Image, ReadError};
-use geos_machine::admits;
+use geos_kernel::{Kernel, Refusal};
+use geos_machine::{Machine, Outcome, admits};
 use geos_verify::{Checked, Rule, check};
+use granted_runs::{RoutineCall, run_granted};
 use std::alloc::Global;
+use vm_file::Device;
 
 /// The most images that are kept at once.
 const MOST_IMAGES: usize = 65_536;
@@ -56,7 +65,7 @@ fn append(images: &mut Vec<Option<Checked>>, checked: Checked, number: &mut u32)
 
 /// Gives an image the lowest number that is free.
 #[tactic(auto, using(crate::proofs::Numbers::set_stays, crate::proofs::Numbers::set_is))]
-fn keep(images: &mut Vec<Option<Checked>>, checked: Checked, number: &mut u32) -> u32
+pub(crate) fn keep(images: &mut Vec<Option<Checked>>, checked: Checked, number: &mut u32) -> u32
     ensures stands { result ≡ 0 → slice_get images.new.items number.new ≡ Some (Some checked) }
     ensures stay { (n : ℕ) (image : Parts) → slice_get images.old.items n ≡ Some (Some image) → slice_get images.new.items n ≡ Some (Some image) }
     ensures own { (result ≡ 0) ⊎ (result ≡ 111) }
@@ -80,6 +89,36 @@ fn number_of(rule: Rule) -> u32
     rule as u32
 }
 
+/// The image that bytes spell, if the verifier accepts it; else the number that says why not.
+pub(crate) fn accepted(
+    alloc: Global,
+    bytes: &[u8],
+    place: &mut u64,
+    rule: &mut u32,
+) -> Result<Checked, u32>
+    ensures image { IfOk result (λ checked. image_at bytes.now ≡ Ok checked) }
+    ensures bad { IfErr result (λ status. status ≡ 112 → image_at bytes.now ≡ Err place.new) }
+    ensures refused { IfErr result (λ status. status ≡ 113 → IsRejected bytes.now place.new rule.new) }
+    ensures own { IfErr result (λ status. (status ≡ 111) ⊎ ((status ≡ 112) ⊎ (status ≡ 113))) }
+{
+    let image = match geos_image::read(alloc, bytes) {
+        Ok(image) => image,
+        Err(ReadError::BadImage(at)) => {
+            *place = at as u64;
+            return Err(BAD_IMAGE);
+        }
+        Err(ReadError::Memory) => return Err(NO_MEMORY),
+    };
+    match check(image) {
+        Ok(checked) => Ok(checked),
+        Err((_image, reject)) => {
+            *place = u64::from(reject.pc);
+            *rule = number_of(reject.rule);
+            Err(REFUSED)
+        }
+    }
+}
+
 fn load_in(
     alloc: Global,
     system: &mut System,
@@ -92,21 +131,9 @@ fn load_in(
     ensures bad { result ≡ 112 → image_at bytes.now ≡ Err place.new }
     ensures refused { result ≡ 113 → IsRejected bytes.now place.new rule.new }
 {
-    let image = match geos_image::read(alloc, bytes) {
-        Ok(image) => image,
-        Err(ReadError::BadImage(at)) => {
-            *place = at as u64;
-            return BAD_IMAGE;
-        }
-        Err(ReadError::Memory) => return NO_MEMORY,
-    };
-    match check(image) {
+    match accepted(alloc, bytes, place, rule) {
         Ok(checked) => keep(&mut system.images, checked, number),
-        Err((_image, reject)) => {
-            *place = u64::from(reject.pc);
-            *rule = number_of(reject.rule);
-            REFUSED
-        }
+        Err(status) => status,
     }
 }
 
@@ -159,7 +186,7 @@ pub extern "C" fn takhvoi_unload(alloc: Global, handle: &mut Handle, number: u32
 }
 
 /// The image that a number stands for.
-fn image_of(images: &Vec<Option<Checked>>, number: u32) -> Option<&Checked>
+pub(crate) fn image_of(images: &Vec<Option<Checked>>, number: u32) -> Option<&Checked>
     ensures some { IfSome (option_copied result) (λ image. slice_get images.now.items number ≡ Some (Some image)) }
     ensures none { IfNone (option_copied result) ((image : Parts) → slice_get images.now.items number ≡ Some (Some image) → ⊥) }
 {
@@ -175,6 +202,31 @@ fn put_words(words: &[u16], into: &mut [u16])
 {
     let n = words.len().min(into.len());
     into[..n].copy_from_slice(&words[..n]);
+}
+
+/// Runs a routine, which leaves what is not granted as it was.
+fn run_on<'m, D: Device + Drop>(
+    machine: &'m mut Machine,
+    checked: &Checked,
+    routine: u16,
+    words: &[u16; 8],
+    handles: &[u16; 4],
+    kernel: &mut Kernel<D>,
+) -> &'m Outcome
+    requires admitted { admits checked.now routine words.now ≡ true }
+    requires lent { Lends kernel.old.core (entry_slots checked.now routine) handles.now }
+    ensures gave { Gave D.medium checked.now routine words.now handles.now kernel.old kernel.new result.now }
+    ensures within { (f : VmFile) → IsFileOf (D.medium.honest kernel.old.device) kernel.old.core f
+        → RanWithin (D.medium.honest kernel.old.device) (Throughout D.medium kernel.old.device kernel.new.device)
+        checked.now routine words.now handles.now kernel.old.core kernel.new.core result.now f }
+{
+    let call = RoutineCall {
+        checked,
+        routine,
+        words,
+        handles,
+    };
+    run_granted(machine, &call, kernel)
 }
 
 fn run_in(
@@ -204,9 +256,12 @@ fn run_in(
     if !is_performed(kernel) {
         return PENDING;
     }
+    if !make_room(kernel) {
+        return status::number(Refusal::Memory);
+    }
     // what the file keeps before it
     kernel.memory_is_legal();
-    let outcome = machine.run_in_place(checked, routine, words, handles, kernel);
+    let outcome = run_on(machine, checked, routine, words, handles, kernel);
     rest(kernel, *hosted);
     *words = outcome.words;
     *steps = outcome.steps;

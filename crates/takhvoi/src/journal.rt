@@ -1,7 +1,6 @@
 //! What the device has noted is told, for the host to perform.
 
-ghost use Rattle.std.specs.Option.{option_copied};
-ghost use Rattle.std.specs.Prelude.{◌≡◌, [], false, length, true};
+ghost use Rattle.std.specs.Prelude.{◌≡◌, [], false, length, slice_get, true};
 ghost use Rattle.host_device.specs.Journal.{journal_of};
 ghost use Rattle.takhvoi.specs.Answers.{Done, Looks, Served};
 ghost use Rattle.takhvoi.specs.Journal.{HasBytes, IsSettled, IsStep, LacksBytes, NoSuchBytes, step_at};
@@ -20,7 +19,16 @@ pub(crate) fn is_performed(kernel: &Kernel<HostDevice>) -> bool
     ensures none { result ≡ true → journal_of kernel.now.device ≡ [] }
     ensures some { result ≡ false → journal_of kernel.now.device ≡ [] → ⊥ }
 {
-    kernel.device().journal().is_empty()
+    kernel.device().is_performed()
+}
+
+/// Gets the memory for all that a commit notes; returns whether it has it.
+pub(crate) fn make_room(kernel: &mut Kernel<HostDevice>) -> bool
+    requires { journal_of kernel.old.device ≡ [] }
+    ensures { kernel.new ≡ kernel.old }
+{
+    kernel.settle();
+    kernel.device().has_room()
 }
 
 /// Forgets what is noted where no host performs it.
@@ -34,13 +42,14 @@ pub(crate) fn rest(kernel: &mut Kernel<HostDevice>, hosted: bool)
     }
 }
 
-fn tell_step(step: Option<&Step>, kind: &mut u16, at: &mut u64, len: &mut u64)
-    ensures { IsStep (option_copied step.entry) kind.new at.new len.new }
+#[tactic(auto, using(crate::proofs::Told::tells_write, crate::proofs::Told::tells_sync, crate::proofs::Told::tells_none))]
+fn tell_step(device: &HostDevice, number: u32, kind: &mut u16, at: &mut u64, len: &mut u64)
+    ensures { IsStep (slice_get (journal_of device.now) number) kind.new at.new len.new }
 {
-    match step {
-        Some(Step::Write(from, _, bytes)) => {
+    match device.step(number as usize) {
+        Some(Step::Write(from, bytes)) => {
             *kind = 1;
-            *at = *from;
+            *at = from;
             *len = bytes.len() as u64;
         }
         Some(Step::Sync) => *kind = 2,
@@ -64,23 +73,21 @@ pub extern "C" fn takhvoi_step(
     let Some(system) = take(alloc, handle) else {
         return NO_KERNEL;
     };
-    tell_step(
-        system.kernel.device().journal().get(number as usize),
-        kind,
-        at,
-        len,
-    );
+    tell_step(system.kernel.device(), number, kind, at, len);
     put(handle, system);
     DONE
 }
 
 /// Copies bytes of a write, where it has them.
-fn copy_step(step: Option<&Step>, from: u64, into: &mut [u8]) -> u32
-    ensures copied { result ≡ 0 → HasBytes (option_copied step.entry) from into.new }
-    ensures own { (result ≡ 0 → ⊥) → (result ≡ 105) × LacksBytes (option_copied step.entry) from (length into.old) }
+#[tactic(auto, using(crate::proofs::Told::has_write, crate::proofs::Told::lacks_write, crate::proofs::Told::lacks_sync, crate::proofs::Told::lacks_none))]
+fn copy_step(device: &HostDevice, number: u32, from: u64, into: &mut [u8]) -> u32
+    ensures copied { result ≡ 0 → HasBytes (slice_get (journal_of device.now) number) from into.new }
+    ensures own { (result ≡ 0 → ⊥) → (result ≡ 105) × LacksBytes (slice_get (journal_of device.now) number) from (length into.old) }
 {
-    let Some(Step::Write(_, _, bytes)) = step else {
-        return BAD_SIZE;
+    let bytes = match device.step(number as usize) {
+        Some(Step::Write(_, bytes)) => bytes,
+        Some(Step::Sync) => return BAD_SIZE,
+        None => return BAD_SIZE,
     };
     let (len, n) = (bytes.len(), into.len());
     if n > len || from > (len - n) as u64 {
@@ -106,11 +113,7 @@ pub extern "C" fn takhvoi_step_bytes(
     let Some(system) = take(alloc, handle) else {
         return NO_KERNEL;
     };
-    let status = copy_step(
-        system.kernel.device().journal().get(number as usize),
-        from,
-        into,
-    );
+    let status = copy_step(system.kernel.device(), number, from, into);
     put(handle, system);
     status
 }

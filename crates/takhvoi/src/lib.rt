@@ -10,6 +10,7 @@ mod arrays;
 mod blocks;
 mod chunks;
 mod explains;
+mod grants;
 mod handle;
 mod held;
 mod images;

@@ -36,6 +36,8 @@ pub(crate) const REFUSED: u32 = 113;
 pub(crate) const NOT_ADMITTED: u32 = 114;
 /// The buffer is too short.
 pub(crate) const SHORT_BUFFER: u32 = 115;
+/// A public routine does something that is not granted.
+pub(crate) const NOT_GRANTED: u32 = 116;
 
 /// The block with a number: a handle, and 65,536 more where it is one of the VM file.
 pub(crate) fn name_of(block: u32) -> Name

@@ -10,10 +10,10 @@ ghost use Rattle.takhvoi.specs.Own.{IsPending, MayNotCommit, MayNotMark, NoOwn};
 
 use crate::handle::Handle;
 use crate::held::{put, take};
-use crate::journal::{is_performed, rest};
-use crate::status::{DONE, FILE_LOCKED, NO_KERNEL, NOT_LOCKED, PENDING, end, tell};
+use crate::journal::{is_performed, make_room, rest};
+use crate::status::{DONE, FILE_LOCKED, NO_KERNEL, NOT_LOCKED, PENDING, end, number, tell};
 use crate::system::System;
-use geos_kernel::Name;
+use geos_kernel::{Name, Refusal};
 use std::alloc::Global;
 use vm_file::How;
 
@@ -210,6 +210,9 @@ fn commit_in(system: &mut System, how: How) -> u32
     }
     if !is_performed(&system.kernel) {
         return PENDING;
+    }
+    if !make_room(&mut system.kernel) {
+        return number(Refusal::Memory);
     }
     // what a stop leaves before it
     system.kernel.memory_is_legal();

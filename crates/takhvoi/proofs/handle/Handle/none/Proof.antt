@@ -48,7 +48,7 @@ no_vm : VmState Seen
 no_vm = record { file = no_file (record { image = []; failed = 0 }); entries = []; map_block = 0; map_item = (0, 0) }
 
 no_device : Global → HostDevice
-no_device a = record { alloc = a; cache = record { bytes = no_vec a; failures = 0 }; journal = no_vec a; failures = 0 }
+no_device a = record { cache = record { bytes = no_vec a; failures = 0 }; log = []; failures = 0 }
   where
     no_vec : {T : Type 0} → Global → Vec T
     no_vec a = record { ptr = null_ptr; len = 0; cap = 0; alloc = a; items = []; ok = (refl, omega arith); small = omega arith }
