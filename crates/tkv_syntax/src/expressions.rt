@@ -1,9 +1,10 @@
 //! Values and conditions. The operations that wait for their second value stand in the list of what is not closed.
 
-use crate::fault::{Fault, Why};
+use crate::fault::Why;
 use crate::item::{Item, ItemKind};
-use crate::parser::{Parser, Part, Pending, plain};
-use crate::words::{Name, Word, name_at};
+use crate::parser::{Parser, Part, Pending};
+use crate::token::Token;
+use crate::words::Word;
 
 /// The operation of a sign, and how strongly it binds.
 fn operation(word: Word) -> Option<(ItemKind, u8)> {
@@ -33,302 +34,295 @@ fn comparison(word: Word) -> Option<u32> {
     }
 }
 
-/// The opposite of a comparison.
-fn opposite(test: u32) -> u32 {
-    test ^ 1
+/// What comes next within a value.
+#[derive(Clone, Copy)]
+enum Next {
+    /// A value, or what begins one.
+    Operand,
+    /// What follows a value.
+    Operator,
+    Nothing,
 }
 
-/// Whether a call of the name makes a block, whose handle its first argument names.
-fn makes_block(name: Name) -> bool {
-    name == *b"mnew\0\0\0\0\0\0\0\0\0\0\0\0" || name == *b"vnew\0\0\0\0\0\0\0\0\0\0\0\0"
-}
+impl Parser {
+    /// Whether something is not closed within a value that began when so much was not.
+    fn is_open(&self, base: usize) -> bool {
+        self.pending.len() > base
+    }
 
-impl Parser<'_> {
-    /// What is not closed within a value that began when so much was not.
-    fn innermost(&self, base: usize) -> Option<Pending> {
-        if self.pending.len() <= base {
-            return None;
+    /// The level of the innermost construct of a value that began when so much was not closed: 0, if it is no operation.
+    fn level(&self, base: usize) -> u8 {
+        match self.pending.last() {
+            Some(pending) => if self.is_open(base) { pending.level } else { 0 },
+            None => 0,
         }
-        self.pending.last().copied()
+    }
+
+    /// The innermost construct of a value that began when so much was not closed.
+    fn part(&self, base: usize) -> Option<Part> {
+        match self.pending.last() {
+            Some(pending) => if self.is_open(base) {
+                Some(pending.part)
+            } else {
+                None
+            },
+            None => None,
+        }
+    }
+
+    /// The innermost construct is closed: adds what it adds then.
+    fn close_innermost(&mut self) {
+        if let Some(pending) = self.pending.pop() {
+            self.put(pending.item);
+        }
     }
 
     /// Adds the operations that bind at least so strongly and have their second value now.
-    fn settle(&mut self, base: usize, level: u8) -> Result<(), Fault> {
+    fn settle(&mut self, base: usize, level: u8) {
         for _ in 0..self.pending.len() {
-            match self.innermost(base) {
-                Some(pending) => {
-                    if pending.part != Part::Operation || pending.level < level {
-                        return Ok(());
-                    }
-                    self.pending.pop();
-                    self.put(pending.item)?;
-                }
-                None => return Ok(()),
+            if self.level(base) < level {
+                break;
             }
+            self.close_innermost();
         }
-        Ok(())
     }
 
-    fn begin_part(&mut self, part: Part, item: Item, level: u8) -> Result<(), Fault> {
-        self.suspend(Pending {
-            part,
-            start: 0,
-            item,
-            level,
-        })
-    }
-
-    /// A name behind which a bracket stands: a call. Tells whether a value is wanted next.
-    fn call(&mut self, at: u32) -> Result<bool, Fault> {
-        if self.takes(Word::ParenEnd)? {
-            self.put_plain(ItemKind::Call, at)?;
-            return Ok(false);
+    /// A name after which a bracket stands: a call.
+    fn call(&mut self, at: u32) -> Next {
+        if self.takes(Word::ParenEnd) {
+            self.put_plain(ItemKind::Call, at);
+            return Next::Operator;
         }
-        let item = Item {
-            a: 1,
-            ..plain(ItemKind::Call, at)
-        };
-        self.begin_part(Part::Call, item, 0)?;
-        let makes = makes_block(name_at(self.text, at));
+        self.begin_part(
+            Part::Call,
+            Item {
+                a: 1,
+                ..Item::new(ItemKind::Call, at)
+            },
+        );
+        let makes = self.is_named(at, "mnew") || self.is_named(at, "vnew");
         if makes && self.is(Word::Named) {
-            let handle = self.expect(Word::Named)?;
-            self.put_plain(ItemKind::Handle, handle)?;
-            return Ok(false);
+            let handle = self.expect(Word::Named);
+            self.put_plain(ItemKind::Handle, handle);
+            return Next::Operator;
         }
-        Ok(true)
+        Next::Operand
     }
 
-    /// A value, or what begins one. Tells whether a value is wanted next.
-    fn operand(&mut self) -> Result<bool, Fault> {
-        let token = self.token;
-        match token.word {
+    /// A name, or a call of it.
+    fn named(&mut self, at: u32) -> Next {
+        if self.takes(Word::Paren) {
+            return self.call(at);
+        }
+        self.put_plain(ItemKind::Named, at);
+        Next::Operator
+    }
+
+    /// A value, or what begins one.
+    fn operand(&mut self) -> Next {
+        let Token {
+            word,
+            at,
+            value,
+            ..
+        } = self.token;
+        match word {
             Word::Number => {
-                self.advance()?;
-                self.put(Item {
-                    a: u32::from(token.value),
-                    ..plain(ItemKind::Number, token.at)
-                })?;
-                Ok(false)
+                self.advance();
+                self.add(ItemKind::Number, at, u32::from(value), 0);
             }
             Word::WhyWord => {
-                self.advance()?;
-                self.put_plain(ItemKind::WhyValue, token.at)?;
-                Ok(false)
-            }
-            Word::Paren => {
-                self.advance()?;
-                self.begin_part(Part::Group, plain(ItemKind::End, token.at), 0)?;
-                Ok(true)
+                self.advance();
+                self.put_plain(ItemKind::WhyValue, at);
             }
             Word::Named => {
-                self.advance()?;
-                if self.takes(Word::Paren)? {
-                    return self.call(token.at);
-                }
-                self.put_plain(ItemKind::Named, token.at)?;
-                Ok(false)
+                self.advance();
+                return self.named(at);
             }
-            _ => Err(Fault::new(Why::WantedValue, token.at)),
+            Word::Paren => {
+                self.advance();
+                self.begin_part(Part::Group, Item::new(ItemKind::End, at));
+                return Next::Operand;
+            }
+            _ => self.refuse(Why::ExpectedValue, at),
         }
+        Next::Operator
     }
 
-    /// A field behind a dot. Tells whether a value is wanted next: its index.
-    fn field(&mut self) -> Result<bool, Fault> {
-        let at = self.expect(Word::Named)?;
-        if !self.takes(Word::Bracket)? {
-            self.put_plain(ItemKind::Field, at)?;
-            return Ok(false);
+    /// A field after its dot, or what comes before its index.
+    fn field(&mut self) -> Next {
+        self.advance();
+        let at = self.expect(Word::Named);
+        if self.takes(Word::Bracket) {
+            self.begin_part(
+                Part::Index,
+                Item {
+                    a: 1,
+                    ..Item::new(ItemKind::Field, at)
+                },
+            );
+            return Next::Operand;
         }
-        let item = Item {
-            a: 1,
-            ..plain(ItemKind::Field, at)
-        };
-        self.begin_part(Part::Index, item, 0)?;
-        Ok(true)
+        self.put_plain(ItemKind::Field, at);
+        Next::Operator
     }
 
     /// A `?`, which belongs to what is just before.
-    fn question(&mut self) -> Result<(), Fault> {
-        let at = self.expect(Word::Asks)?;
-        let mut item = self.retract(Why::NotRefusable)?;
-        if item.kind != ItemKind::Call && item.kind != ItemKind::Field {
-            return Err(Fault::new(Why::NotRefusable, at));
+    fn question(&mut self) -> Next {
+        let at = self.expect(Word::Asks);
+        let item = self.retract(Why::NotRefusable);
+        match item.kind {
+            ItemKind::Call | ItemKind::Field => self.add(item.kind, item.at, item.a, 1),
+            _ => self.refuse(Why::NotRefusable, at),
         }
-        item.b = 1;
-        self.put(item)
+        Next::Operator
     }
 
-    /// A bracket closes what began with its partner. Tells whether it does so within this value.
-    fn close_part(&mut self, base: usize) -> Result<bool, Fault> {
-        self.settle(base, 0)?;
+    /// A bracket closes what began with its partner, if that is within this value.
+    fn close_part(&mut self, base: usize) -> Next {
+        self.settle(base, 1);
         let square = self.is(Word::BracketEnd);
-        match self.innermost(base) {
-            Some(pending) => {
-                if square != (pending.part == Part::Index) {
-                    return Ok(false);
-                }
-                self.pending.pop();
-                self.advance()?;
-                if pending.part != Part::Group {
-                    self.put(pending.item)?;
-                }
-                Ok(true)
+        let part = self.part(base);
+        if square != matches!(part, Some(Part::Index)) || part.is_none() {
+            return Next::Nothing;
+        }
+        if matches!(part, Some(Part::Group)) {
+            self.pending.pop();
+        } else {
+            self.close_innermost();
+        }
+        self.advance();
+        Next::Operator
+    }
+
+    /// A comma within the arguments of a call, if it is one.
+    fn next_argument(&mut self, base: usize) -> Next {
+        self.settle(base, 1);
+        if !matches!(self.part(base), Some(Part::Call)) {
+            return Next::Nothing;
+        }
+        if let Some(call) = self.pending.last_mut() {
+            call.item.a = call.item.a.saturating_add(1);
+        }
+        self.advance();
+        Next::Operand
+    }
+
+    /// An operation, whose second value comes next.
+    fn operator(&mut self, base: usize) -> Next {
+        let Token { word, at, .. } = self.token;
+        match operation(word) {
+            Some((kind, level)) => {
+                self.advance();
+                self.settle(base, level);
+                self.suspend(Pending {
+                    part: Part::Operation,
+                    item: Item::new(kind, at),
+                    level,
+                });
+                Next::Operand
             }
-            None => Ok(false),
+            None => Next::Nothing,
         }
     }
 
-    /// A comma within the arguments of a call. Tells whether it is one.
-    fn next_argument(&mut self, base: usize) -> Result<bool, Fault> {
-        self.settle(base, 0)?;
-        match self.innermost(base) {
-            Some(pending) => {
-                if pending.part != Part::Call {
-                    return Ok(false);
-                }
-                self.pending.pop();
-                let mut next = pending;
-                next.item.a = next.item.a.saturating_add(1);
-                self.suspend(next)?;
-                self.advance()?;
-                Ok(true)
-            }
-            None => Ok(false),
-        }
-    }
-
-    /// What follows a value. The first answer tells whether something does, the second whether a value is wanted next.
-    fn continuation(&mut self, base: usize) -> Result<(bool, bool), Fault> {
-        let token = self.token;
-        match token.word {
-            Word::Dot => {
-                self.advance()?;
-                let wants = self.field()?;
-                Ok((true, wants))
-            }
-            Word::Asks => {
-                self.question()?;
-                Ok((true, false))
-            }
-            Word::Comma => {
-                let more = self.next_argument(base)?;
-                Ok((more, more))
-            }
-            Word::ParenEnd | Word::BracketEnd => {
-                let more = self.close_part(base)?;
-                Ok((more, false))
-            }
-            _ => match operation(token.word) {
-                Some((kind, level)) => {
-                    self.advance()?;
-                    self.settle(base, level)?;
-                    self.begin_part(Part::Operation, plain(kind, token.at), level)?;
-                    Ok((true, true))
-                }
-                None => Ok((false, false)),
-            },
+    /// What follows a value.
+    fn continuation(&mut self, base: usize) -> Next {
+        match self.token.word {
+            Word::Dot => self.field(),
+            Word::Asks => self.question(),
+            Word::Comma => self.next_argument(base),
+            Word::ParenEnd | Word::BracketEnd => self.close_part(base),
+            _ => self.operator(base),
         }
     }
 
     /// A value. Its items are added, each after its operands.
-    pub(crate) fn value(&mut self) -> Result<(), Fault> {
+    pub(crate) fn value(&mut self) {
         let base = self.pending.len();
-        let mut wants = true;
+        let mut next = Next::Operand;
         // Each turn takes a word, or is the last one.
         for _ in 0..=self.text.len() {
-            if wants {
-                wants = self.operand()?;
-            } else {
-                let (more, next) = self.continuation(base)?;
-                wants = next;
-                if !more {
-                    break;
-                }
-            }
+            next = match next {
+                Next::Operand => self.operand(),
+                Next::Operator => self.continuation(base),
+                Next::Nothing => break,
+            };
         }
-        self.settle(base, 0)?;
-        match self.innermost(base) {
-            Some(pending) => Err(self.wanted(if pending.part == Part::Index {
-                Word::BracketEnd
-            } else {
-                Word::ParenEnd
-            })),
-            None => Ok(()),
+        self.settle(base, 1);
+        match self.part(base) {
+            Some(Part::Index) => self.refuse_word(Word::BracketEnd),
+            Some(_) => self.refuse_word(Word::ParenEnd),
+            None => {}
         }
+    }
+
+    /// Adds a comparison, or its opposite, which is the next one if it is even.
+    fn add_test(&mut self, at: u32, test: u32, negated: bool) {
+        self.add(ItemKind::Test, at, test ^ u32::from(negated), 0);
     }
 
     /// The test that a call writes: `same` or `differ`.
-    fn block_test(&mut self, negated: bool) -> Result<(), Fault> {
-        let item = self.retract(Why::WantedTest)?;
-        let name = name_at(self.text, item.at);
-        let test = if name == *b"differ\0\0\0\0\0\0\0\0\0\0" {
-            6
-        } else if name == *b"same\0\0\0\0\0\0\0\0\0\0\0\0" {
-            7
+    fn block_test(&mut self, negated: bool) {
+        let item = self.retract(Why::ExpectedCondition);
+        let call = matches!(item.kind, ItemKind::Call) && item.a == 2 && item.b == 0;
+        if call && self.is_named(item.at, "differ") {
+            self.add_test(item.at, 6, negated);
+        } else if call && self.is_named(item.at, "same") {
+            self.add_test(item.at, 7, negated);
         } else {
-            return Err(Fault::new(Why::WantedTest, item.at));
-        };
-        if item.kind != ItemKind::Call || item.a != 2 || item.b != 0 {
-            return Err(Fault::new(Why::WantedTest, item.at));
+            self.refuse(Why::ExpectedCondition, item.at);
         }
-        self.put(Item {
-            a: if negated { opposite(test) } else { test },
-            ..plain(ItemKind::Test, item.at)
-        })
     }
 
     /// A comparison of two values, or of two blocks.
-    fn comparison(&mut self, negated: bool) -> Result<(), Fault> {
-        self.value()?;
-        let token = self.token;
-        match comparison(token.word) {
+    fn comparison(&mut self, negated: bool) {
+        self.value();
+        let Token { word, at, .. } = self.token;
+        match comparison(word) {
             Some(test) => {
-                self.advance()?;
-                self.value()?;
-                self.put(Item {
-                    a: if negated { opposite(test) } else { test },
-                    ..plain(ItemKind::Test, token.at)
-                })
+                self.advance();
+                self.value();
+                self.add_test(at, test, negated);
             }
             None => self.block_test(negated),
         }
     }
 
     /// A comparison, or `!` and a test, which may stand in brackets.
-    fn test(&mut self) -> Result<(), Fault> {
+    fn test(&mut self) {
         let mut negated = false;
         let mut brackets: u32 = 0;
         for _ in 0..self.text.len() {
-            if !self.takes(Word::Not)? {
+            if !self.takes(Word::Not) {
                 break;
             }
             negated = !negated;
-            if self.takes(Word::Paren)? {
+            if self.takes(Word::Paren) {
                 brackets = brackets.saturating_add(1);
             }
         }
-        self.comparison(negated)?;
+        self.comparison(negated);
         for _ in 0..brackets {
-            self.expect(Word::ParenEnd)?;
+            self.expect(Word::ParenEnd);
         }
-        Ok(())
     }
 
     /// A condition: alternatives, each of tests that are all to hold.
-    pub(crate) fn condition(&mut self) -> Result<(), Fault> {
+    pub(crate) fn condition(&mut self) {
         let at = self.token.at;
-        self.put_plain(ItemKind::Alt, at)?;
+        self.put_plain(ItemKind::Alt, at);
         for _ in 0..=self.text.len() {
-            self.test()?;
-            if self.takes(Word::Both)? {
+            self.test();
+            if self.takes(Word::Both) {
                 continue;
             }
-            self.put_plain(ItemKind::AltEnd, at)?;
-            if !self.takes(Word::Either)? {
+            self.put_plain(ItemKind::AltEnd, at);
+            if !self.takes(Word::Either) {
                 break;
             }
-            self.put_plain(ItemKind::Alt, at)?;
+            self.put_plain(ItemKind::Alt, at);
         }
-        self.put_plain(ItemKind::CondEnd, at)
+        self.put_plain(ItemKind::CondEnd, at);
     }
 }

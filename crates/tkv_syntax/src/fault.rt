@@ -16,33 +16,33 @@ pub enum Why {
     BadNumber,
     /// A name has more than 16 letters.
     LongName,
-    /// `word` is wanted here.
-    Wanted,
-    /// A value is wanted here: a number, a name or a bracket.
-    WantedValue,
-    /// A condition is wanted here.
-    WantedTest,
+    /// `word` is expected here.
+    Expected,
+    /// A value is expected here: a number, a name or a bracket.
+    ExpectedValue,
+    /// A condition is expected here.
+    ExpectedCondition,
     /// `?` follows something that is never refused.
     NotRefusable,
     /// This can't be set.
     NotSettable,
     /// A routine has more than 8 parameters.
     ManyParameters,
-    /// A lock is wanted before `as`.
-    WantedLock,
+    /// A lock is expected before `as`.
+    ExpectedLock,
     /// A name is used twice; `other` is its first place.
     Twice,
     /// Nothing has this name here.
     Unknown,
-    /// The name stands for something of another kind than is wanted: a word.
+    /// The name stands for something that is no word.
     NoWordHere,
-    /// A constant is wanted here.
+    /// A constant is expected here.
     NoConstant,
-    /// A locked block is wanted here.
+    /// A locked block is expected here.
     NoBlock,
-    /// A pointer is wanted here.
+    /// A pointer is expected here.
     NoPointer,
-    /// A call has another number of arguments; `number` is how many it takes.
+    /// A call has the wrong number of arguments; `number` is how many it takes.
     Arguments,
     /// The structure has no such field.
     NoField,
@@ -50,19 +50,19 @@ pub enum Why {
     FieldIndex,
     /// A constant is past what a word holds, or is divided by 0.
     ConstantRange,
-    /// No instruction multiplies or divides by this: one side is to be a constant, a divisor a power of two.
+    /// No instruction multiplies or divides by this: one side must be a constant, and a divisor a power of two.
     NoInstruction,
     /// This may be refused, and nothing says what happens then.
     Unsaid,
-    /// The refusal has nowhere to go: the routine gives a result in any case.
+    /// The refusal has nowhere to go: the routine always gives a result.
     NoWayOut,
-    /// The word is not set on each way to this place.
+    /// The word is not set on every path to this place.
     Unset,
     /// `why` is not known here.
     WhyUnknown,
     /// The pointer may be stale; `other` is the call that may move its chunk.
     Stale,
-    /// The pointer is not fetched on each way to this place.
+    /// The pointer is not fetched on every path to this place.
     NotFetched,
     /// There is no word left.
     NoWordLeft,
@@ -74,7 +74,7 @@ pub enum Why {
     NoCounterLeft,
     /// Nothing leads to this place.
     Unreached,
-    /// `break` or `continue` stands in no loop.
+    /// `break` or `continue` is not in a loop.
     NoLoop,
     /// A block of the file is locked here, and the call writes the file.
     Commits,
@@ -82,15 +82,15 @@ pub enum Why {
     PastEnd,
     /// A value is dropped.
     Dropped,
-    /// The call gives another number of values.
+    /// The call gives a different number of values.
     Values,
     /// A routine calls itself.
     CallsItself,
-    /// A public routine is called from outside only, takes words and lent blocks, and gives no result.
+    /// A public routine is called only from outside, takes words and lent blocks, and gives no result.
     Public,
-    /// The blocks are of two kinds, or the block is of another kind than is wanted.
+    /// The blocks are of two kinds, or the block is not of the kind that is expected.
     Kinds,
-    /// A loop is to have a turn at least.
+    /// A loop has at least one turn.
     NoTurn,
     /// The source has too many declarations, instructions or nested blocks.
     TooMany,
@@ -98,7 +98,7 @@ pub enum Why {
     NothingRefused,
     /// The condition holds always, or never.
     AlwaysOrNever,
-    /// No way leads to the end of the routine.
+    /// No path leads to the end of the routine.
     NoEnd,
     /// The program has no public routine.
     NoRoutine,
@@ -123,7 +123,7 @@ pub struct Fault {
 }
 
 impl Fault {
-    /// A fault of which only the place is to be told.
+    /// A fault that speaks only of its place.
     pub fn new(why: Why, at: u32) -> Fault {
         Fault {
             why,

@@ -118,3 +118,16 @@ pub struct Item {
     pub b: u32,
     pub c: u32,
 }
+
+impl Item {
+    /// An item without further fields.
+    pub(crate) fn new(kind: ItemKind, at: u32) -> Item {
+        Item {
+            kind,
+            at,
+            a: 0,
+            b: 0,
+            c: 0,
+        }
+    }
+}

@@ -14,6 +14,6 @@ mod words;
 
 pub use fault::{Fault, Why};
 pub use item::{Item, ItemKind, NONE, NUMBERS};
-pub use parser::{MOST_BYTES, parse_source};
+pub use parser::{MOST_BYTES, Source, parse_source};
 pub use place::{Place, place_of};
 pub use words::{Name, Word, name_at};

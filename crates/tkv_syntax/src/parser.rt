@@ -3,31 +3,31 @@
 use crate::fault::{Fault, Why};
 use crate::item::{Item, ItemKind, NONE, NUMBERS};
 use crate::token::{Token, next_token};
-use crate::words::Word;
+use crate::words::{Word, is_named};
 use std::alloc::Global;
 
 /// The most bytes of a source.
 pub const MOST_BYTES: usize = 1_048_576;
 
 /// A construct that is not closed.
-#[derive(Clone, Copy, PartialEq, Eq)]
+#[derive(Clone, Copy)]
 pub(crate) enum Part {
-    /// The statements of a routine, and those of its `else`.
+    /// The statements of a routine.
     Body,
-    BodyElse,
     Then,
+    /// The statements after the `else` of an `if`.
     Other,
     /// An `else if`, which has no brace of its own.
     Chained,
     Turns,
-    TurnsElse,
+    /// The statements of a lock that `else` follows, and those of one that `?` follows.
     Locked,
-    LockedElse,
+    Asking,
     Tried,
-    TriedElse,
-    Scope,
-    /// The block behind the `else` of a statement.
+    /// The block after the `else` of a statement.
     Handler,
+    /// Statements that nothing follows but an item.
+    Last,
     /// Within a value: a bracket, the arguments of a call, an index, an operation.
     Group,
     Call,
@@ -35,46 +35,61 @@ pub(crate) enum Part {
     Operation,
 }
 
-/// A construct that is not closed: the item with which it begins, and for those of values what is to follow.
+/// A construct that is not closed, and what is to follow.
 #[derive(Clone, Copy)]
 pub(crate) struct Pending {
     pub part: Part,
-    /// The index of an item.
-    pub start: usize,
-    /// Of values: what is to be added when it is closed.
+    /// Of values and last statements: what is added when it is closed.
     pub item: Item,
-    /// Of an operation: how strongly it binds.
+    /// Of an operation: how strongly it binds, from 1. Otherwise 0.
     pub level: u8,
 }
 
-/// A source that is being read.
+/// A source that is being read. After the first fault the next word is the end of the source, so that reading soon ends too.
 #[derive(Drop)]
-pub(crate) struct Parser<'a> {
-    pub text: &'a [u8],
+pub(crate) struct Parser {
+    pub text: Vec<u8>,
     /// The word that is next.
     pub token: Token,
     pub items: Vec<Item>,
     pub pending: Vec<Pending>,
-    /// The item of the routine's declaration.
+    /// The items of the routine's declaration, and of its body.
     pub routine: usize,
+    pub body: usize,
+    /// The first fault, if there is one.
+    fault: Option<Fault>,
 }
 
-/// An item without further fields.
-pub(crate) fn plain(kind: ItemKind, at: u32) -> Item {
-    Item {
-        kind,
-        at,
-        a: 0,
-        b: 0,
-        c: 0,
+impl Parser {
+    /// Keeps a fault, if it is the first one.
+    fn refuse_with(&mut self, fault: Fault) {
+        if self.fault.is_none() {
+            self.fault = Some(fault);
+            self.token.word = Word::End;
+        }
     }
-}
 
-impl Parser<'_> {
+    /// Refuses the source for what is at a place.
+    pub(crate) fn refuse(&mut self, why: Why, at: u32) {
+        self.refuse_with(Fault::new(why, at));
+    }
+
+    /// Refuses another word than this one.
+    pub(crate) fn refuse_word(&mut self, word: Word) {
+        self.refuse_with(Fault {
+            word,
+            ..Fault::new(Why::Expected, self.token.at)
+        });
+    }
+
     /// Goes on to the next word.
-    pub(crate) fn advance(&mut self) -> Result<(), Fault> {
-        self.token = next_token(self.text, self.token.end)?;
-        Ok(())
+    pub(crate) fn advance(&mut self) {
+        if self.fault.is_none() {
+            match next_token(&self.text, self.token.end) {
+                Ok(token) => self.token = token,
+                Err(fault) => self.refuse_with(fault),
+            }
+        }
     }
 
     /// Whether the next word is this one.
@@ -82,69 +97,90 @@ impl Parser<'_> {
         self.token.word == word
     }
 
-    /// Takes the word if it is next, and tells whether it was.
-    pub(crate) fn takes(&mut self, word: Word) -> Result<bool, Fault> {
-        if self.is(word) {
-            self.advance()?;
-            return Ok(true);
+    /// Takes the word if it is next, and returns whether it was.
+    pub(crate) fn takes(&mut self, word: Word) -> bool {
+        let there = self.is(word);
+        if there {
+            self.advance();
         }
-        Ok(false)
+        there
     }
 
-    /// The fault of another word than this one.
-    pub(crate) fn wanted(&self, word: Word) -> Fault {
-        Fault {
-            word,
-            ..Fault::new(Why::Wanted, self.token.at)
-        }
-    }
-
-    /// Takes the word, and tells where it was.
-    pub(crate) fn expect(&mut self, word: Word) -> Result<u32, Fault> {
+    /// Takes the word, and returns where it was.
+    pub(crate) fn expect(&mut self, word: Word) -> u32 {
         let at = self.token.at;
-        if !self.is(word) {
-            return Err(self.wanted(word));
+        if !self.takes(word) {
+            self.refuse_word(word);
         }
-        self.advance()?;
-        Ok(at)
+        at
     }
 
-    pub(crate) fn put(&mut self, item: Item) -> Result<(), Fault> {
-        match self.items.push(item) {
-            Ok(()) => Ok(()),
-            Err(_) => Err(Fault::new(Why::Memory, item.at)),
+    pub(crate) fn put(&mut self, item: Item) {
+        if self.items.push(item).is_err() {
+            self.refuse(Why::Memory, item.at);
         }
+    }
+
+    /// Adds an item with two fields.
+    pub(crate) fn add(&mut self, kind: ItemKind, at: u32, a: u32, b: u32) {
+        self.put(Item {
+            kind,
+            at,
+            a,
+            b,
+            c: 0,
+        });
     }
 
     /// Adds an item that has no further fields.
-    pub(crate) fn put_plain(&mut self, kind: ItemKind, at: u32) -> Result<(), Fault> {
-        self.put(plain(kind, at))
+    pub(crate) fn put_plain(&mut self, kind: ItemKind, at: u32) {
+        self.add(kind, at, 0, 0);
     }
 
-    /// Something begins that is to be closed.
-    pub(crate) fn suspend(&mut self, pending: Pending) -> Result<(), Fault> {
-        match self.pending.push(pending) {
-            Ok(()) => Ok(()),
-            Err(_) => Err(Fault::new(Why::Memory, self.token.at)),
+    /// Something begins, which is not closed yet.
+    pub(crate) fn suspend(&mut self, pending: Pending) {
+        if self.pending.push(pending).is_err() {
+            self.refuse(Why::Memory, self.token.at);
         }
     }
 
-    /// A construct with statements begins behind `{`.
-    pub(crate) fn enter(&mut self, part: Part, start: usize) -> Result<(), Fault> {
-        let at = self.expect(Word::Brace)?;
+    /// A construct begins, at whose end an item is added.
+    pub(crate) fn begin_part(&mut self, part: Part, item: Item) {
         self.suspend(Pending {
             part,
-            start,
-            item: plain(ItemKind::End, at),
+            item,
             level: 0,
-        })
+        });
+    }
+
+    /// A construct with statements begins after `{`.
+    pub(crate) fn enter(&mut self, part: Part) {
+        let at = self.expect(Word::Brace);
+        self.begin_part(part, Item::new(ItemKind::End, at));
+    }
+
+    /// The last statements of a construct begin after `{`. At their end an item of this kind is added.
+    pub(crate) fn enter_last(&mut self, kind: ItemKind) {
+        let at = self.expect(Word::Brace);
+        self.begin_part(Part::Last, Item::new(kind, at));
     }
 
     /// Takes the last item away.
-    pub(crate) fn retract(&mut self, why: Why) -> Result<Item, Fault> {
+    pub(crate) fn retract(&mut self, why: Why) -> Item {
         match self.items.pop() {
-            Some(item) => Ok(item),
-            None => Err(Fault::new(why, self.token.at)),
+            Some(item) => item,
+            None => {
+                self.refuse(why, self.token.at);
+                Item::new(ItemKind::End, self.token.at)
+            }
+        }
+    }
+
+    /// Sets two fields of an item that has been added.
+    pub(crate) fn amend(&mut self, index: usize, a: u32, b: u32) {
+        if let Some(item) = self.items.get_mut(index) {
+            item.a = a;
+            item.b = b;
         }
     }
 
@@ -156,201 +192,229 @@ impl Parser<'_> {
     }
 
     /// A constant that is written as a number or a name.
-    pub(crate) fn constant(&mut self) -> Result<u32, Fault> {
-        let token = self.token;
-        if self.takes(Word::Number)? {
-            return Ok(u32::from(token.value));
+    pub(crate) fn constant(&mut self) -> u32 {
+        let number = u32::from(self.token.value);
+        if self.takes(Word::Number) {
+            return number;
         }
-        let at = self.expect(Word::Named)?;
-        Ok(at.saturating_add(NUMBERS))
+        self.expect(Word::Named).saturating_add(NUMBERS)
+    }
+
+    /// Whether the name at a place is this one.
+    pub(crate) fn is_named(&self, at: u32, name: &str) -> bool {
+        is_named(&self.text, at, name.as_bytes())
     }
 
     /// The bound of a parameter, if one is written.
-    fn bound(&mut self) -> Result<u32, Fault> {
-        if self.takes(Word::AtMost)? {
+    fn bound(&mut self) -> u32 {
+        if self.takes(Word::AtMost) {
             self.constant()
         } else {
-            Ok(NONE)
+            NONE
         }
     }
 
-    /// What kind of block a name says.
-    fn block_kind(&self, at: u32) -> Option<u32> {
-        let name = crate::words::name_at(self.text, at);
-        if name == *b"mem\0\0\0\0\0\0\0\0\0\0\0\0\0" {
-            Some(0)
-        } else if name == *b"vm\0\0\0\0\0\0\0\0\0\0\0\0\0\0" {
-            Some(1)
-        } else if name == *b"group\0\0\0\0\0\0\0\0\0\0\0" {
-            Some(2)
+    /// A block parameter whose kind stands at a place.
+    fn block_parameter(&mut self, at: u32, kind: u32) {
+        let number = if self.is_named(kind, "mem") {
+            0
+        } else if self.is_named(kind, "vm") {
+            1
+        } else if self.is_named(kind, "group") {
+            2
         } else {
-            None
+            return self.refuse_word(Word::In);
+        };
+        self.add(ItemKind::BlockParam, at, number, 0);
+    }
+
+    /// A parameter after its name and a colon.
+    fn typed_parameter(&mut self, at: u32) {
+        let kind = self.token.at;
+        let bytes = self.constant();
+        if self.takes(Word::In) {
+            let block = self.expect(Word::Named);
+            self.add(ItemKind::PointerParam, at, bytes, block);
+        } else {
+            self.block_parameter(at, kind);
         }
     }
 
-    /// A parameter behind its name and a colon.
-    fn typed_parameter(&mut self, at: u32) -> Result<(), Fault> {
-        let token = self.token;
-        let bytes = self.constant()?;
-        if self.takes(Word::In)? {
-            let block = self.expect(Word::Named)?;
-            return self.put(Item {
-                a: bytes,
-                b: block,
-                ..plain(ItemKind::PointerParam, at)
-            });
-        }
-        match self.block_kind(token.at) {
-            Some(kind) => self.put(Item {
-                a: kind,
-                ..plain(ItemKind::BlockParam, at)
-            }),
-            None => Err(self.wanted(Word::In)),
+    /// A parameter.
+    fn parameter(&mut self) {
+        let at = self.expect(Word::Named);
+        if self.takes(Word::Colon) {
+            self.typed_parameter(at);
+        } else {
+            let bound = self.bound();
+            self.add(ItemKind::WordParam, at, 0, bound);
         }
     }
 
     /// The parameters of a routine; how many there are.
-    fn parameters(&mut self) -> Result<u32, Fault> {
-        self.expect(Word::Paren)?;
+    fn parameters(&mut self) -> u32 {
+        self.expect(Word::Paren);
         for count in 0..9 {
-            if self.takes(Word::ParenEnd)? {
-                return Ok(count);
+            if self.takes(Word::ParenEnd) {
+                return count;
             }
             if count > 0 {
-                self.expect(Word::Comma)?;
+                self.expect(Word::Comma);
             }
-            let at = self.expect(Word::Named)?;
-            if self.takes(Word::Colon)? {
-                self.typed_parameter(at)?;
-            } else {
-                let bound = self.bound()?;
-                self.put(Item {
-                    b: bound,
-                    ..plain(ItemKind::WordParam, at)
-                })?;
-            }
+            self.parameter();
         }
-        Err(Fault::new(Why::ManyParameters, self.token.at))
+        self.refuse(Why::ManyParameters, self.token.at);
+        0
     }
 
     /// Whether a result is named, with its bound.
-    fn outcome(&mut self) -> Result<bool, Fault> {
-        if !self.takes(Word::Arrow)? {
-            return Ok(false);
+    fn outcome(&mut self) -> bool {
+        let named = self.takes(Word::Arrow);
+        if named {
+            self.expect(Word::Named);
+            self.bound();
         }
-        self.expect(Word::Named)?;
-        self.bound()?;
-        Ok(true)
+        named
     }
 
     /// A routine up to its first statement.
-    fn header(&mut self) -> Result<(), Fault> {
-        let public = self.takes(Word::Pub)?;
-        self.takes(Word::Inline)?;
-        self.expect(Word::Fn)?;
+    fn header(&mut self) {
+        let public = self.takes(Word::Pub);
+        self.takes(Word::Inline);
+        self.expect(Word::Fn);
         let start = self.items.len();
-        let at = self.expect(Word::Named)?;
-        self.put_plain(ItemKind::Fn, at)?;
-        let parameters = self.parameters()?;
-        let gives = self.outcome()?;
-        let refusable = self.takes(Word::Asks)?;
+        let at = self.expect(Word::Named);
+        self.put_plain(ItemKind::Fn, at);
+        let parameters = self.parameters();
+        let gives = self.outcome();
+        let refusable = self.takes(Word::Asks);
         self.routine = start;
-        if let Some(item) = self.items.get_mut(start) {
-            item.a = u32::from(public) + 4 * u32::from(refusable) + 8 * u32::from(gives);
-            item.b = parameters;
-        }
-        let body = self.items.len();
-        self.put_plain(ItemKind::Body, at)?;
-        self.enter(Part::Body, body)
+        let flags = u32::from(public) + 4 * u32::from(refusable) + 8 * u32::from(gives);
+        self.amend(start, flags, parameters);
+        self.body = self.items.len();
+        self.put_plain(ItemKind::Body, at);
+        self.enter(Part::Body);
     }
 
-    /// A field of a structure, up to the comma or semicolon behind it.
-    fn field_line(&mut self) -> Result<(), Fault> {
-        let at = self.expect(Word::Named)?;
-        self.expect(Word::Colon)?;
-        let size = self.expect(Word::Named)?;
-        let name = crate::words::name_at(self.text, size);
-        let bytes = if name == *b"word\0\0\0\0\0\0\0\0\0\0\0\0" {
-            2
-        } else if name == *b"byte\0\0\0\0\0\0\0\0\0\0\0\0" {
-            1
-        } else {
-            return Err(Fault::new(Why::NoWordHere, size));
-        };
-        let many = self.takes(Word::Bracket)?;
-        let count = if many { self.constant()? } else { 1 };
+    /// How many bytes a field has whose size stands at a place.
+    fn field_bytes(&mut self, size: u32) -> u32 {
+        if self.is_named(size, "word") {
+            return 2;
+        }
+        if !self.is_named(size, "byte") {
+            self.refuse(Why::NoWordHere, size);
+        }
+        1
+    }
+
+    /// A field of a structure, up to the comma or semicolon after it.
+    fn field_line(&mut self) {
+        let at = self.expect(Word::Named);
+        self.expect(Word::Colon);
+        let size = self.expect(Word::Named);
+        let bytes = self.field_bytes(size);
+        let many = self.takes(Word::Bracket);
+        let count = if many { self.constant() } else { 1 };
         if many {
-            self.expect(Word::BracketEnd)?;
+            self.expect(Word::BracketEnd);
         }
         self.put(Item {
+            kind: ItemKind::FieldDef,
+            at,
             a: bytes,
             b: u32::from(many),
             c: count,
-            ..plain(ItemKind::FieldDef, at)
-        })?;
-        if !self.takes(Word::Comma)? {
-            self.takes(Word::Stop)?;
+        });
+        if !self.takes(Word::Comma) {
+            self.takes(Word::Stop);
         }
-        Ok(())
     }
 
-    /// A structure behind `struct`.
-    fn structure(&mut self) -> Result<(), Fault> {
-        let at = self.expect(Word::Named)?;
-        self.put_plain(ItemKind::StructDef, at)?;
-        self.expect(Word::Brace)?;
+    /// A structure after `struct`.
+    fn structure(&mut self) {
+        let at = self.expect(Word::Named);
+        self.put_plain(ItemKind::StructDef, at);
+        self.expect(Word::Brace);
         for _ in 0..self.text.len() {
-            if self.takes(Word::BraceEnd)? {
-                return self.put_plain(ItemKind::StructEnd, at);
+            if self.is(Word::BraceEnd) || self.fault.is_some() {
+                break;
             }
-            self.field_line()?;
+            self.field_line();
         }
-        Err(self.wanted(Word::BraceEnd))
+        self.expect(Word::BraceEnd);
+        self.put_plain(ItemKind::StructEnd, at);
     }
 
-    /// A constant behind `const`.
-    fn named_constant(&mut self) -> Result<(), Fault> {
-        let at = self.expect(Word::Named)?;
-        self.expect(Word::Set)?;
-        self.value()?;
-        self.expect(Word::Stop)?;
-        self.put_plain(ItemKind::ConstDef, at)
+    /// A constant after `const`.
+    fn named_constant(&mut self) {
+        let at = self.expect(Word::Named);
+        self.expect(Word::Set);
+        self.value();
+        self.expect(Word::Stop);
+        self.put_plain(ItemKind::ConstDef, at);
     }
 
     /// A declaration, a routine up to its first statement.
-    fn declaration(&mut self) -> Result<(), Fault> {
-        if self.takes(Word::Const)? {
-            self.named_constant()
-        } else if self.takes(Word::Struct)? {
-            self.structure()
+    fn declaration(&mut self) {
+        if self.takes(Word::Const) {
+            self.named_constant();
+        } else if self.takes(Word::Struct) {
+            self.structure();
         } else {
-            self.header()
+            self.header();
         }
+    }
+
+    /// Whether nothing is left to read.
+    fn is_over(&self) -> bool {
+        self.fault.is_some() || (self.is(Word::End) && self.pending.is_empty())
     }
 }
 
-/// The items of a source. The fault is the first one that reading finds, and its place is one of the source, or its end.
-pub fn parse_source(alloc: Global, text: &[u8]) -> Result<Vec<Item>, Fault> {
+/// A source, and the named program that it writes.
+#[derive(Drop)]
+pub struct Source {
+    pub text: Vec<u8>,
+    pub items: Vec<Item>,
+}
+
+/// The named program of a source. The fault is the first one that reading finds, and its place is one of the source, or its end.
+pub fn parse_source(alloc: Global, text: &[u8]) -> Result<Source, Fault> {
     if text.len() > MOST_BYTES {
         return Err(Fault::new(Why::TooLong, 0));
     }
-    let token = next_token(text, 0)?;
+    let mut owned = Vec::new(alloc);
+    owned.extend_from_slice(text)?;
     let mut parser = Parser {
-        text,
-        token,
+        text: owned,
+        token: Token::new(Word::End, 0, 0),
         items: Vec::new(alloc),
         pending: Vec::new(alloc),
         routine: 0,
+        body: 0,
+        fault: None,
     };
+    parser.advance();
     // Each turn takes a word at least.
     for _ in 0..=text.len() {
-        if !parser.pending.is_empty() {
-            parser.statement()?;
-        } else if parser.is(Word::End) {
-            return Ok(parser.items);
+        if parser.is_over() {
+            break;
+        }
+        if parser.pending.is_empty() {
+            parser.declaration();
         } else {
-            parser.declaration()?;
+            parser.statement();
         }
     }
-    Err(Fault::new(Why::TooMany, parser.token.at))
+    if !parser.is_over() {
+        let at = parser.token.at;
+        parser.refuse(Why::TooMany, at);
+    }
+    match parser.fault {
+        Some(fault) => Err(fault),
+        None => Ok(Source {
+            text: parser.text,
+            items: parser.items,
+        }),
+    }
 }

@@ -15,6 +15,18 @@ pub(crate) struct Token {
     pub value: u16,
 }
 
+impl Token {
+    /// A word that is no number.
+    pub(crate) fn new(word: Word, at: u32, end: u32) -> Token {
+        Token {
+            word,
+            at,
+            end,
+            value: 0,
+        }
+    }
+}
+
 /// A place further on. Sources are so short that this is the sum.
 fn plus(at: u32, more: u32) -> u32 {
     at.saturating_add(more)
@@ -25,7 +37,7 @@ fn letter(text: &[u8], at: u32) -> u8 {
     byte_at(text, at as usize)
 }
 
-/// The place behind the letters that begin here.
+/// The place after the letters that begin here.
 fn letters_end(text: &[u8], at: u32) -> u32 {
     let mut end = at;
     for _ in 0..text.len() {
@@ -37,7 +49,7 @@ fn letters_end(text: &[u8], at: u32) -> u32 {
     end
 }
 
-/// The place behind a comment that begins here.
+/// The place after a comment that begins here.
 fn comment_end(text: &[u8], at: u32) -> u32 {
     let mut end = at;
     for _ in 0..text.len() {
@@ -50,7 +62,7 @@ fn comment_end(text: &[u8], at: u32) -> u32 {
     end
 }
 
-/// Where the next word begins: behind blanks and comments.
+/// Where the next word begins: after blanks and comments.
 fn word_start(text: &[u8], at: u32) -> u32 {
     let mut start = at;
     for _ in 0..text.len() {
@@ -99,18 +111,30 @@ fn numbered(text: &[u8], at: u32, end: u32, base: u32) -> Option<u16> {
     }
 }
 
-/// The number that begins with a digit here.
-fn number(text: &[u8], at: u32) -> Result<Token, Fault> {
-    let end = letters_end(text, at);
+/// The number that is written from a digit to an end, if it is one.
+fn number(text: &[u8], at: u32, end: u32) -> Option<u16> {
     let second = letter(text, plus(at, 1));
     let zero = letter(text, at) == b'0';
-    let value = if zero && second == b'x' {
+    if zero && second == b'x' {
         numbered(text, plus(at, 2), end, 16)
     } else if zero && second == b'b' {
         numbered(text, plus(at, 2), end, 2)
     } else {
         numbered(text, at, end, 10)
-    };
+    }
+}
+
+/// The character that is quoted here, as a number, if one is.
+fn quoted(text: &[u8], at: u32) -> Option<u16> {
+    let value = letter(text, plus(at, 1));
+    if value < b' ' || value > b'~' || letter(text, plus(at, 2)) != b'\'' {
+        return None;
+    }
+    Some(u16::from(value))
+}
+
+/// A number, if it is one.
+fn valued(at: u32, end: u32, value: Option<u16>) -> Result<Token, Fault> {
     match value {
         Some(value) => Ok(Token {
             word: Word::Number,
@@ -122,34 +146,14 @@ fn number(text: &[u8], at: u32) -> Result<Token, Fault> {
     }
 }
 
-/// The character that is quoted here, as a number.
-fn quoted(text: &[u8], at: u32) -> Result<Token, Fault> {
-    let value = letter(text, plus(at, 1));
-    if value < b' ' || value > b'~' || letter(text, plus(at, 2)) != b'\'' {
-        return Err(Fault::new(Why::BadNumber, at));
-    }
-    Ok(Token {
-        word: Word::Number,
-        at,
-        end: plus(at, 3),
-        value: u16::from(value),
-    })
-}
-
 /// The word or name that begins with a letter here.
 fn spelled(text: &[u8], at: u32) -> Result<Token, Fault> {
     let end = letters_end(text, at);
     let length = end.saturating_sub(at);
-    let word = lettered(text, at, length);
     if length > 16 {
         return Err(Fault::new(Why::LongName, at));
     }
-    Ok(Token {
-        word,
-        at,
-        end,
-        value: 0,
-    })
+    Ok(Token::new(lettered(text, at, length), at, end))
 }
 
 /// The first word from a place on.
@@ -157,29 +161,20 @@ pub(crate) fn next_token(text: &[u8], from: u32) -> Result<Token, Fault> {
     let at = word_start(text, from);
     let byte = letter(text, at);
     if at as usize >= text.len() {
-        return Ok(Token {
-            word: Word::End,
-            at,
-            end: at,
-            value: 0,
-        });
+        return Ok(Token::new(Word::End, at, at));
     }
     if byte.is_ascii_digit() {
-        return number(text, at);
+        let end = letters_end(text, at);
+        return valued(at, end, number(text, at, end));
     }
     if byte == b'\'' {
-        return quoted(text, at);
+        return valued(at, plus(at, 3), quoted(text, at));
     }
     if byte.is_ascii_alphabetic() {
         return spelled(text, at);
     }
     match sign(text, at) {
-        Some((word, length)) => Ok(Token {
-            word,
-            at,
-            end: plus(at, length),
-            value: 0,
-        }),
+        Some((word, length)) => Ok(Token::new(word, at, plus(at, length))),
         None => Err(Fault::new(Why::NoWord, at)),
     }
 }

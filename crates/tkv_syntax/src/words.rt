@@ -65,130 +65,71 @@ pub enum Word {
     BracketEnd,
 }
 
-/// The words that are spelled with letters.
-const LETTERED: [Word; 23] = [
-    Word::Pub,
-    Word::Inline,
-    Word::Fn,
-    Word::Const,
-    Word::Struct,
-    Word::Let,
-    Word::If,
-    Word::Else,
-    Word::While,
-    Word::Loop,
-    Word::For,
-    Word::In,
-    Word::Step,
-    Word::Max,
-    Word::Try,
-    Word::As,
-    Word::Out,
-    Word::Dirty,
-    Word::Fail,
-    Word::Return,
-    Word::Break,
-    Word::Continue,
-    Word::WhyWord,
-];
-
-/// The words that are spelled with signs, longer ones first.
-const SIGNS: [Word; 31] = [
-    Word::To,
-    Word::Arrow,
-    Word::Same,
-    Word::Unlike,
-    Word::AtMost,
-    Word::AtLeast,
-    Word::Both,
-    Word::Either,
-    Word::Left,
-    Word::Right,
-    Word::Plus,
-    Word::Minus,
-    Word::Times,
-    Word::Over,
-    Word::Rest,
-    Word::Mask,
-    Word::Less,
-    Word::More,
-    Word::Set,
-    Word::Not,
-    Word::Asks,
-    Word::Dot,
-    Word::Comma,
-    Word::Colon,
-    Word::Stop,
-    Word::Paren,
-    Word::ParenEnd,
-    Word::Brace,
-    Word::BraceEnd,
-    Word::Bracket,
-    Word::BracketEnd,
+/// Each word, and how it is spelled or what it is called. The order is that of `Word`; longer signs come first.
+static WORDS: [(Word, &str); 57] = [
+    (Word::End, "the end"),
+    (Word::Named, "a name"),
+    (Word::Number, "a number"),
+    (Word::Pub, "pub"),
+    (Word::Inline, "inline"),
+    (Word::Fn, "fn"),
+    (Word::Const, "const"),
+    (Word::Struct, "struct"),
+    (Word::Let, "let"),
+    (Word::If, "if"),
+    (Word::Else, "else"),
+    (Word::While, "while"),
+    (Word::Loop, "loop"),
+    (Word::For, "for"),
+    (Word::In, "in"),
+    (Word::Step, "step"),
+    (Word::Max, "max"),
+    (Word::Try, "try"),
+    (Word::As, "as"),
+    (Word::Out, "out"),
+    (Word::Dirty, "dirty"),
+    (Word::Fail, "fail"),
+    (Word::Return, "return"),
+    (Word::Break, "break"),
+    (Word::Continue, "continue"),
+    (Word::WhyWord, "why"),
+    (Word::To, ".."),
+    (Word::Arrow, "->"),
+    (Word::Same, "=="),
+    (Word::Unlike, "!="),
+    (Word::AtMost, "<="),
+    (Word::AtLeast, ">="),
+    (Word::Both, "&&"),
+    (Word::Either, "||"),
+    (Word::Left, "<<"),
+    (Word::Right, ">>"),
+    (Word::Plus, "+"),
+    (Word::Minus, "-"),
+    (Word::Times, "*"),
+    (Word::Over, "/"),
+    (Word::Rest, "%"),
+    (Word::Mask, "&"),
+    (Word::Less, "<"),
+    (Word::More, ">"),
+    (Word::Set, "="),
+    (Word::Not, "!"),
+    (Word::Asks, "?"),
+    (Word::Dot, "."),
+    (Word::Comma, ","),
+    (Word::Colon, ":"),
+    (Word::Stop, ";"),
+    (Word::Paren, "("),
+    (Word::ParenEnd, ")"),
+    (Word::Brace, "{"),
+    (Word::BraceEnd, "}"),
+    (Word::Bracket, "["),
+    (Word::BracketEnd, "]"),
 ];
 
 impl Word {
     /// How it is spelled, or what it is called.
     pub fn text(self) -> &'static str {
-        match self {
-            Word::End => "the end",
-            Word::Named => "a name",
-            Word::Number => "a number",
-            Word::Pub => "pub",
-            Word::Inline => "inline",
-            Word::Fn => "fn",
-            Word::Const => "const",
-            Word::Struct => "struct",
-            Word::Let => "let",
-            Word::If => "if",
-            Word::Else => "else",
-            Word::While => "while",
-            Word::Loop => "loop",
-            Word::For => "for",
-            Word::In => "in",
-            Word::Step => "step",
-            Word::Max => "max",
-            Word::Try => "try",
-            Word::As => "as",
-            Word::Out => "out",
-            Word::Dirty => "dirty",
-            Word::Fail => "fail",
-            Word::Return => "return",
-            Word::Break => "break",
-            Word::Continue => "continue",
-            Word::WhyWord => "why",
-            Word::To => "..",
-            Word::Arrow => "->",
-            Word::Same => "==",
-            Word::Unlike => "!=",
-            Word::AtMost => "<=",
-            Word::AtLeast => ">=",
-            Word::Both => "&&",
-            Word::Either => "||",
-            Word::Left => "<<",
-            Word::Right => ">>",
-            Word::Plus => "+",
-            Word::Minus => "-",
-            Word::Times => "*",
-            Word::Over => "/",
-            Word::Rest => "%",
-            Word::Mask => "&",
-            Word::Less => "<",
-            Word::More => ">",
-            Word::Set => "=",
-            Word::Not => "!",
-            Word::Asks => "?",
-            Word::Dot => ".",
-            Word::Comma => ",",
-            Word::Colon => ":",
-            Word::Stop => ";",
-            Word::Paren => "(",
-            Word::ParenEnd => ")",
-            Word::Brace => "{",
-            Word::BraceEnd => "}",
-            Word::Bracket => "[",
-            Word::BracketEnd => "]",
-        }
+        WORDS[self as usize].1
     }
 }
 
@@ -236,12 +177,16 @@ fn stands(text: &[u8], at: u32, bytes: &[u8]) -> bool {
     true
 }
 
+/// Whether the name at a place is this one.
+pub(crate) fn is_named(text: &[u8], at: u32, name: &[u8]) -> bool {
+    stands(text, at, name) && !is_letter(byte_at(text, (at as usize).saturating_add(name.len())))
+}
+
 /// The word that is spelled with so many letters here: a name, if no other word is.
 pub(crate) fn lettered(text: &[u8], at: u32, length: u32) -> Word {
-    for word in LETTERED {
-        let spelled = word.text().as_bytes();
-        if spelled.len() == length as usize && stands(text, at, spelled) {
-            return word;
+    for (word, spelled) in &WORDS {
+        if spelled.len() == length as usize && stands(text, at, spelled.as_bytes()) {
+            return *word;
         }
     }
     Word::Named
@@ -249,9 +194,9 @@ pub(crate) fn lettered(text: &[u8], at: u32, length: u32) -> Word {
 
 /// The sign that stands at a place, if one does, and its length.
 pub(crate) fn sign(text: &[u8], at: u32) -> Option<(Word, u32)> {
-    for (k, word) in SIGNS.iter().enumerate() {
-        if stands(text, at, word.text().as_bytes()) {
-            return Some((*word, if k < 10 { 2 } else { 1 }));
+    for (word, spelled) in &WORDS {
+        if stands(text, at, spelled.as_bytes()) {
+            return Some((*word, if spelled.len() == 1 { 1 } else { 2 }));
         }
     }
     None
