@@ -8,7 +8,7 @@ use geos_image::Instr;
 use geos_opcodes::{
     FIELDS, Field, Opcode, Operand as Holds, PointerUse, SlotUse, Yields, operand_at,
 };
-use tkv_syntax::{Fault, Item, Why};
+use tkv_syntax::{Item, Why};
 
 /// An instruction with a field set.
 pub(crate) fn with_field(instr: Instr, field: Field, number: u16) -> Instr {
@@ -68,28 +68,19 @@ pub(crate) fn argument_count(opcode: Opcode) -> usize {
     count
 }
 
-impl Placer<'_> {
+impl Placer {
     /// What a field holds for an argument.
-    pub(crate) fn argument(&mut self, holds: Holds, operand: Operand) -> Result<u16, Fault> {
+    pub(crate) fn argument(&mut self, holds: Holds, operand: Operand) -> u16 {
         match holds {
-            Holds::Slot => {
-                let slot = self.slot_of(operand)?;
-                Ok(u16::from(slot))
-            }
-            Holds::Pointer => {
-                let pointer = self.pointer_of(operand)?;
-                Ok(u16::from(pointer))
-            }
-            Holds::Word => {
-                let word = self.word_of(operand)?;
-                Ok(u16::from(word))
-            }
+            Holds::Slot => u16::from(self.slot_of(operand)),
+            Holds::Pointer => u16::from(self.pointer_of(operand)),
+            Holds::Word => u16::from(self.word_of(operand)),
             _ => self.number_of(operand),
         }
     }
 
     /// The instruction of a call, whose arguments are the last values, without its results.
-    fn filled(&mut self, opcode: Opcode, count: usize, at: u32) -> Result<Instr, Fault> {
+    fn filled(&mut self, opcode: Opcode, count: usize, at: u32) -> Instr {
         let mut instr = bare(opcode);
         let mut left = count;
         for field in FIELDS {
@@ -98,39 +89,38 @@ impl Placer<'_> {
                 let operand = if left == 0 {
                     value(Sort::Constant, at, 0, 0)
                 } else {
-                    self.operand(left - 1, at)?
+                    self.operand(left - 1, at)
                 };
                 left = left.saturating_sub(1);
-                let number = self.argument(operand_at(opcode, field), operand)?;
+                let number = self.argument(operand_at(opcode, field), operand);
                 instr = with_field(instr, field, number);
             }
         }
-        Ok(instr)
+        instr
     }
 
     /// Tests what a call does not allow where it stands, and marks the block that it changes.
-    fn prepare(&mut self, opcode: Opcode, count: usize, at: u32) -> Result<(), Fault> {
+    fn prepare(&mut self, opcode: Opcode, count: usize, at: u32) {
         let uses = opcode.uses();
         if matches!(uses.slot, SlotUse::Commits) {
             for held in self.slots {
                 if !matches!(held, Held::Free | Held::Mem) {
-                    return Err(Fault::new(Why::Commits, at));
+                    return self.refuse(Why::Commits, at);
                 }
             }
         }
         if count == 0 {
-            return Ok(());
+            return;
         }
-        let first = self.operand(count - 1, at)?;
+        let first = self.operand(count - 1, at);
         if matches!(uses.slot, SlotUse::Moves) {
-            let slot = self.slot_of(first)?;
-            self.mark(slot, at)?;
+            let slot = self.slot_of(first);
+            self.mark(slot, at);
         }
         if matches!(uses.pointer, PointerUse::Copies) {
-            let pointer = self.pointer_of(first)?;
-            self.mark(self.leads[usize::from(pointer)], at)?;
+            let pointer = self.pointer_of(first);
+            self.mark(self.leads[usize::from(pointer)], at);
         }
-        Ok(())
     }
 
     /// The pointers that a call makes stale.
@@ -143,105 +133,77 @@ impl Placer<'_> {
     }
 
     /// Places a call, with a way for its refusal.
-    fn called(&mut self, instr: Instr, asks: bool, at: u32) -> Result<(), Fault> {
+    fn called(&mut self, instr: Instr, asks: bool, at: u32) {
         if instr.opcode.operands().refusable {
-            let way = self.refusal_way(asks, at)?;
+            let way = self.refusal_way(asks, at);
             self.moved(&instr, at);
-            return self.act_to(instr, way, at);
+            self.act_to(instr, way, at);
+        } else if asks {
+            self.refuse(Why::NotRefusable, at);
+        } else {
+            self.moved(&instr, at);
+            self.act(instr, at);
         }
-        if asks {
-            return Err(Fault::new(Why::NotRefusable, at));
-        }
-        self.moved(&instr, at);
-        self.act(instr, at)
     }
 
     /// A call of the kernel, whose arguments are the last values. What it gives takes their place.
-    pub(crate) fn kernel_call(&mut self, item: &Item, opcode: Opcode) -> Result<(), Fault> {
+    pub(crate) fn kernel_call(&mut self, item: &Item, opcode: Opcode) {
         let at = item.at;
-        let wanted = argument_count(opcode);
+        let takes = argument_count(opcode);
         let count = item.a as usize;
-        let sizeless = matches!(opcode, Opcode::Caadd | Opcode::Cains) && count + 1 == wanted;
-        if !is_call(opcode) || (count != wanted && !sizeless) {
-            return Err(Fault {
-                number: wanted.min(255) as u16,
-                ..Fault::new(
-                    if is_call(opcode) {
-                        Why::Arguments
-                    } else {
-                        Why::Unknown
-                    },
-                    at,
-                )
-            });
+        let sizeless = matches!(opcode, Opcode::Caadd | Opcode::Cains) && count + 1 == takes;
+        if !is_call(opcode) {
+            return self.refuse(Why::Unknown, at);
+        }
+        if count != takes && !sizeless {
+            return self.refuse_by(Why::Arguments, at, takes.min(255) as u16);
         }
         let words = self.words;
-        self.prepare(opcode, count, at)?;
-        let instr = self.filled(opcode, count, at)?;
-        let slot = instr.a;
+        self.prepare(opcode, count, at);
+        let instr = self.filled(opcode, count, at);
         self.words = words;
         if matches!(opcode.uses().pointer, PointerUse::Sets) {
-            return self.fetched(instr, count, slot, item.b != 0, at);
+            self.fetched(instr, count, item.b != 0, at);
+        } else {
+            self.with_results(instr, count, item.b != 0, at);
         }
-        self.with_results(instr, count, item.b != 0, at)
     }
 
     /// DEREF or CAELT: a pointer into a block.
-    fn fetched(
-        &mut self,
-        instr: Instr,
-        count: usize,
-        slot: u8,
-        asks: bool,
-        at: u32,
-    ) -> Result<(), Fault> {
-        let bytes = self.operand(0, at)?;
-        let structure = if bytes.sort == Sort::Structure {
-            bytes.structure
-        } else {
-            crate::placed::NOWHERE
-        };
+    fn fetched(&mut self, instr: Instr, count: usize, asks: bool, at: u32) {
+        let bytes = self.operand(0, at);
         self.take_values(count);
-        let pointer = self.take_pointer(slot, at)?;
-        let instr = Instr {
-            b: pointer,
-            ..instr
-        };
-        self.called(instr, asks, at)?;
-        self.state = self.state.with_pointer(pointer);
+        let mut made = instr;
+        made.b = self.take_pointer(instr.a, at);
+        self.called(made, asks, at);
+        self.state = self.state.with_pointer(made.b);
         self.push(Operand {
-            structure,
-            ..value(Sort::Pointer, at, pointer, instr.imm)
-        })
+            structure: bytes.structure_of(),
+            ..value(Sort::Pointer, at, made.b, made.imm)
+        });
     }
 
     /// A call that gives words, or nothing.
-    fn with_results(
-        &mut self,
-        instr: Instr,
-        count: usize,
-        asks: bool,
-        at: u32,
-    ) -> Result<(), Fault> {
+    fn with_results(&mut self, instr: Instr, count: usize, asks: bool, at: u32) {
         self.take_values(count);
         let yields = instr.opcode.facts().yields;
         let mut made = instr;
         match yields {
             Yields::WordInAAndB => {
-                made.a = self.push_result(at)?;
-                made.b = self.push_result(at)?;
+                made.a = self.push_result(at);
+                made.b = self.push_result(at);
             }
-            Yields::WordInB => made.b = self.push_result(at)?,
+            Yields::WordInB => made.b = self.push_result(at),
             Yields::Computed | Yields::ByteInA | Yields::WordInA => {
-                made.a = self.push_result(at)?;
+                made.a = self.push_result(at);
             }
             Yields::Nothing => {}
         }
-        self.called(made, asks, at)
+        self.called(made, asks, at);
     }
 
     /// A call: of the kernel, or of a routine.
-    pub(crate) fn call(&mut self, item: &Item) -> Result<(), Fault> {
+    pub(crate) fn call(&mut self, item: &Item) {
         let name = self.name(item.at);
         match opcode_named(&name) {
             Some(opcode) => self.kernel_call(item, opcode),

@@ -1,8 +1,9 @@
 //! The declarations of a program: constants, structures and routines.
 
+use crate::placed::NOWHERE;
 use geos_opcodes::{Opcode, SlotUse};
 use std::alloc::Global;
-use tkv_syntax::{Fault, Item, ItemKind, NUMBERS, Name, Why, name_at};
+use tkv_syntax::{Fault, Item, ItemKind, NUMBERS, Name, Source, Why, name_at};
 
 /// The most declarations of a program, and the most fields of all structures.
 const MOST: usize = 256;
@@ -43,9 +44,10 @@ pub(crate) struct FieldPlace {
     pub many: bool,
 }
 
-/// The declarations of a program.
+/// A program, and its declarations.
 #[derive(Drop)]
 pub struct Declared {
+    pub(crate) source: Source,
     pub(crate) globals: Vec<Declaration>,
     pub(crate) fields: Vec<FieldPlace>,
 }
@@ -103,6 +105,21 @@ fn may_move(name: &Name) -> bool {
 }
 
 impl Declared {
+    /// The items of the program.
+    pub fn items(&self) -> &[Item] {
+        &self.source.items
+    }
+
+    /// An item of the program, if it is there.
+    pub(crate) fn item(&self, index: usize) -> Option<Item> {
+        self.source.items.get(index).copied()
+    }
+
+    /// The name that stands at a place.
+    pub(crate) fn name(&self, at: u32) -> Name {
+        name_at(&self.source.text, at)
+    }
+
     /// The declaration of a name, if it has one.
     pub(crate) fn find(&self, name: &Name) -> Option<u16> {
         for (k, global) in self.globals.iter().enumerate() {
@@ -128,83 +145,26 @@ impl Declared {
     }
 
     /// What a constant of an item says: a number, or the name of a constant or of a structure, which stands for its bytes.
-    pub(crate) fn constant(&self, text: &[u8], code: u32) -> Result<u16, Fault> {
+    pub(crate) fn constant(&self, code: u32) -> Result<u16, Fault> {
         if code < NUMBERS {
             return Ok(code as u16);
         }
         let at = code - NUMBERS;
-        match self.find(&name_at(text, at)) {
-            Some(index) => match self.get(index) {
-                Some(global) => {
-                    if global.kind == Kind::Routine {
-                        Err(Fault::new(Why::NoConstant, at))
-                    } else {
-                        Ok(global.value)
-                    }
+        let index = self.find(&self.name(at)).unwrap_or(NOWHERE);
+        match self.get(index) {
+            Some(global) => {
+                if matches!(global.kind, Kind::Routine) {
+                    Err(Fault::new(Why::NoConstant, at))
+                } else {
+                    Ok(global.value)
                 }
-                None => Err(Fault::new(Why::Unknown, at)),
-            },
+            }
             None => Err(Fault::new(Why::Unknown, at)),
-        }
-    }
-
-    fn add(&mut self, global: Declaration) -> Result<(), Fault> {
-        if let Some(index) = self.find(&global.name) {
-            let other = self.get(index).map_or(0, |old| old.at);
-            return Err(Fault {
-                other,
-                ..Fault::new(Why::Twice, global.at)
-            });
-        }
-        if opcode_named(&global.name).is_some() {
-            return Err(Fault::new(Why::Twice, global.at));
-        }
-        if self.globals.len() >= MOST {
-            return Err(Fault::new(Why::TooMany, global.at));
-        }
-        match self.globals.push(global) {
-            Ok(()) => Ok(()),
-            Err(_) => Err(Fault::new(Why::Memory, global.at)),
-        }
-    }
-
-    /// Adds a field to the structure that is declared last.
-    fn add_field(&mut self, text: &[u8], item: &Item) -> Result<(), Fault> {
-        let name = name_at(text, item.at);
-        let owner = self.globals.len().saturating_sub(1).min(MOST) as u16;
-        let count = u32::from(self.constant(text, item.c)?);
-        let bytes = item.a.min(2) as u16;
-        if self.field(owner, &name).is_some() {
-            return Err(Fault::new(Why::Twice, item.at));
-        }
-        if self.fields.len() >= MOST {
-            return Err(Fault::new(Why::TooMany, item.at));
-        }
-        let Some(structure) = self.globals.get_mut(usize::from(owner)) else {
-            return Err(Fault::new(Why::Unknown, item.at));
-        };
-        let offset = structure.value;
-        let end = count
-            .saturating_mul(u32::from(bytes))
-            .saturating_add(u32::from(offset));
-        if end > 65_535 {
-            return Err(Fault::new(Why::ConstantRange, item.at));
-        }
-        structure.value = end as u16;
-        match self.fields.push(FieldPlace {
-            name,
-            owner,
-            offset,
-            bytes,
-            many: item.b != 0,
-        }) {
-            Ok(()) => Ok(()),
-            Err(_) => Err(Fault::new(Why::Memory, item.at)),
         }
     }
 }
 
-/// Two constants joined by an operation; `None` where the result is no word.
+/// Two constants joined by an operation; `None` if the result is no word.
 pub(crate) fn folded(kind: ItemKind, left: u16, right: u16) -> Option<u16> {
     let (x, y) = (u32::from(left), u32::from(right));
     let value = match kind {
@@ -249,116 +209,202 @@ pub(crate) fn folded(kind: ItemKind, left: u16, right: u16) -> Option<u16> {
     Some(value as u16)
 }
 
-/// What is being declared.
+/// What is being declared. After the first fault what is declared does not matter.
 #[derive(Drop)]
-struct Declaring<'a> {
-    text: &'a [u8],
+struct Declaring {
     declared: Declared,
     /// The values of a constant that are not used yet.
     values: Vec<u16>,
     /// Whether the items are those of a routine.
     within: bool,
+    /// The first fault, if there is one.
+    fault: Option<Fault>,
 }
 
-impl Declaring<'_> {
-    fn name(&mut self, kind: Kind, item: usize, at: u32, value: u16) -> Result<(), Fault> {
-        let name = name_at(self.text, at);
-        self.declared.add(Declaration {
+impl Declaring {
+    /// Keeps a fault, if it is the first one.
+    fn refuse_with(&mut self, fault: Fault) {
+        if self.fault.is_none() {
+            self.fault = Some(fault);
+        }
+    }
+
+    fn refuse(&mut self, why: Why, at: u32) {
+        self.refuse_with(Fault::new(why, at));
+    }
+
+    /// Refuses a name that has a declaration, or that is one of the kernel's calls.
+    fn refuse_twice(&mut self, name: &Name, at: u32) {
+        let index = self.declared.find(name).unwrap_or(NOWHERE);
+        if let Some(old) = self.declared.get(index) {
+            self.refuse_with(Fault {
+                other: old.at,
+                ..Fault::new(Why::Twice, at)
+            });
+        } else if opcode_named(name).is_some() {
+            self.refuse(Why::Twice, at);
+        }
+    }
+
+    /// Declares a name.
+    fn name(&mut self, kind: Kind, item: usize, at: u32, value: u16) {
+        let name = self.declared.name(at);
+        self.refuse_twice(&name, at);
+        if self.declared.globals.len() >= MOST {
+            return self.refuse(Why::TooMany, at);
+        }
+        let global = Declaration {
             name,
             kind,
             at,
             value,
             item,
             quiet: true,
-        })
+        };
+        if self.declared.globals.push(global).is_err() {
+            self.refuse(Why::Memory, at);
+        }
     }
 
-    fn value(&mut self, value: u16, at: u32) -> Result<(), Fault> {
-        match self.values.push(value) {
-            Ok(()) => Ok(()),
-            Err(_) => Err(Fault::new(Why::Memory, at)),
+    /// What a constant says that is used.
+    fn constant(&mut self, code: u32) -> u16 {
+        match self.declared.constant(code) {
+            Ok(value) => value,
+            Err(fault) => {
+                self.refuse_with(fault);
+                0
+            }
+        }
+    }
+
+    /// Makes the structure that is declared last larger. Where its new bytes begin.
+    fn extend(&mut self, bytes: u32, at: u32) -> u16 {
+        let Some(structure) = self.declared.globals.last_mut() else {
+            self.refuse(Why::Unknown, at);
+            return 0;
+        };
+        let offset = structure.value;
+        let end = u32::from(offset).saturating_add(bytes);
+        if end > 65_535 {
+            self.refuse(Why::ConstantRange, at);
+        } else {
+            structure.value = end as u16;
+        }
+        offset
+    }
+
+    /// Adds a field to the structure that is declared last.
+    fn field(&mut self, item: &Item) {
+        let name = self.declared.name(item.at);
+        let owner = self.declared.globals.len().saturating_sub(1).min(MOST) as u16;
+        let count = u32::from(self.constant(item.c));
+        let bytes = item.a.min(2) as u16;
+        if self.declared.field(owner, &name).is_some() {
+            return self.refuse(Why::Twice, item.at);
+        }
+        if self.declared.fields.len() >= MOST {
+            return self.refuse(Why::TooMany, item.at);
+        }
+        let field = FieldPlace {
+            name,
+            owner,
+            offset: self.extend(count.saturating_mul(u32::from(bytes)), item.at),
+            bytes,
+            many: item.b != 0,
+        };
+        if self.declared.fields.push(field).is_err() {
+            self.refuse(Why::Memory, item.at);
+        }
+    }
+
+    fn value(&mut self, value: u16, at: u32) {
+        if self.values.push(value).is_err() {
+            self.refuse(Why::Memory, at);
+        }
+    }
+
+    /// Joins the last two values of a constant.
+    fn fold(&mut self, item: &Item) {
+        let (Some(right), Some(left)) = (self.values.pop(), self.values.pop()) else {
+            return self.refuse(Why::NoConstant, item.at);
+        };
+        match folded(item.kind, left, right) {
+            Some(value) => self.value(value, item.at),
+            None => self.refuse(Why::ConstantRange, item.at),
         }
     }
 
     /// The item of a constant's value.
-    fn constant_item(&mut self, item: &Item) -> Result<(), Fault> {
+    fn constant_item(&mut self, item: &Item) {
         match item.kind {
             ItemKind::Number => self.value(item.a.min(65_535) as u16, item.at),
             ItemKind::Named => {
-                let value = self
-                    .declared
-                    .constant(self.text, item.at.saturating_add(NUMBERS))?;
-                self.value(value, item.at)
+                let value = self.constant(item.at.saturating_add(NUMBERS));
+                self.value(value, item.at);
             }
-            _ => {
-                let (Some(right), Some(left)) = (self.values.pop(), self.values.pop()) else {
-                    return Err(Fault::new(Why::NoConstant, item.at));
-                };
-                match folded(item.kind, left, right) {
-                    Some(value) => self.value(value, item.at),
-                    None => Err(Fault::new(Why::ConstantRange, item.at)),
-                }
-            }
+            _ => self.fold(item),
         }
     }
 
     /// A call within the routine that is declared last.
     fn call(&mut self, at: u32) {
-        if may_move(&name_at(self.text, at))
+        if !self.within {
+            return self.refuse(Why::NoConstant, at);
+        }
+        if may_move(&self.declared.name(at))
             && let Some(global) = self.declared.globals.last_mut()
         {
             global.quiet = false;
         }
     }
 
-    fn item(&mut self, index: usize, item: &Item) -> Result<(), Fault> {
+    fn item(&mut self, index: usize, item: &Item) {
         match item.kind {
             ItemKind::Fn => {
                 self.within = true;
-                self.name(Kind::Routine, index, item.at, 0)
+                self.name(Kind::Routine, index, item.at, 0);
             }
-            ItemKind::BodyEnd => {
-                self.within = false;
-                Ok(())
-            }
+            ItemKind::BodyEnd => self.within = false,
             ItemKind::StructDef => self.name(Kind::Structure, index, item.at, 0),
-            ItemKind::FieldDef => self.declared.add_field(self.text, item),
-            ItemKind::StructEnd => Ok(()),
+            ItemKind::FieldDef => self.field(item),
+            ItemKind::StructEnd => {}
             ItemKind::ConstDef => {
                 let value = self.values.pop().unwrap_or(0);
-                self.name(Kind::Constant, index, item.at, value)
+                self.name(Kind::Constant, index, item.at, value);
             }
-            ItemKind::Call => {
-                if !self.within {
-                    return Err(Fault::new(Why::NoConstant, item.at));
-                }
-                self.call(item.at);
-                Ok(())
-            }
+            ItemKind::Call => self.call(item.at),
             _ => {
-                if self.within {
-                    return Ok(());
+                if !self.within {
+                    self.constant_item(item);
                 }
-                self.constant_item(item)
             }
         }
     }
 }
 
 /// What a program declares. A constant is known to the declarations below it, a routine to all.
-pub fn declare(alloc: Global, text: &[u8], items: &[Item]) -> Result<Declared, Fault> {
+pub fn declare(alloc: Global, source: Source) -> Result<Declared, Fault> {
     let declared = Declared {
+        source,
         globals: Vec::new(alloc),
         fields: Vec::new(alloc),
     };
     let mut declaring = Declaring {
-        text,
         declared,
         values: Vec::new(alloc),
         within: false,
+        fault: None,
     };
-    for (index, item) in items.iter().enumerate() {
-        declaring.item(index, item)?;
+    for index in 0..declaring.declared.source.items.len() {
+        if declaring.fault.is_some() {
+            break;
+        }
+        if let Some(item) = declaring.declared.item(index) {
+            declaring.item(index, &item);
+        }
     }
-    Ok(declaring.declared)
+    match declaring.fault {
+        Some(fault) => Err(fault),
+        None => Ok(declaring.declared),
+    }
 }

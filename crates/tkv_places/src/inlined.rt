@@ -3,21 +3,8 @@
 use crate::declarations::{Declaration, Kind};
 use crate::names::value;
 use crate::placed::NOWHERE;
-use crate::placer::{Construct, Frame, Held, MOST_WORDS, Meaning, Operand, Placer, Sort, Symbol};
-use tkv_syntax::{Fault, Item, ItemKind, NUMBERS, Name, Why};
-
-/// A symbol for a parameter.
-fn stands_for(name: Name, at: u32, meaning: Meaning, operand: &Operand) -> Symbol {
-    Symbol {
-        name,
-        at,
-        meaning,
-        register: operand.register,
-        value: operand.value,
-        structure: operand.structure,
-        last: usize::MAX,
-    }
-}
+use crate::placer::{Construct, Held, MOST_WORDS, Meaning, Operand, Placer, Running, Sort, Symbol};
+use tkv_syntax::{Item, ItemKind, NUMBERS, Name, Why};
 
 /// Whether a block is of the kind that a parameter says: 0 for `mem`, 1 for `vm`, 2 for `group`.
 fn is_of_kind(held: Held, kind: u32) -> bool {
@@ -29,131 +16,137 @@ fn is_of_kind(held: Held, kind: u32) -> bool {
     }
 }
 
-impl Placer<'_> {
-    /// The routine that a name declares.
-    fn routine_named(&self, name: &Name, at: u32) -> Result<Declaration, Fault> {
+impl Placer {
+    /// The routine that a name declares, if that does not run already.
+    fn routine_named(&mut self, name: &Name, at: u32) -> Option<Declaration> {
         let index = self.declared.find(name).unwrap_or(NOWHERE);
-        match self.declared.get(index) {
+        let found = self.declared.get(index);
+        match found {
             Some(routine) => {
-                if routine.kind != Kind::Routine {
-                    return Err(Fault::new(Why::Unknown, at));
+                if !matches!(routine.kind, Kind::Routine) {
+                    self.refuse(Why::Unknown, at);
                 }
-                for frame in &self.frames {
-                    let runs = matches!(frame.construct, Construct::Routine | Construct::Inlined);
-                    if runs && frame.routine == routine.item {
-                        return Err(Fault::new(Why::CallsItself, at));
-                    }
+                if self
+                    .running
+                    .iter()
+                    .any(|running| running.routine == routine.item)
+                {
+                    self.refuse(Why::CallsItself, at);
                 }
-                Ok(routine)
             }
-            None => Err(Fault::new(Why::Unknown, at)),
+            None => self.refuse(Why::Unknown, at),
+        }
+        found
+    }
+
+    /// A parameter with a meaning, for an operand.
+    fn stands_for(&mut self, item: &Item, meaning: Meaning, operand: &Operand) {
+        self.know(Symbol {
+            name: self.name(item.at),
+            at: item.at,
+            meaning,
+            register: operand.register,
+            value: operand.value,
+            structure: operand.structure,
+            last: usize::MAX,
+        });
+    }
+
+    /// Names a word parameter. A name that the routine does not set is used where it stands.
+    fn bind_word(&mut self, item: &Item, operand: Operand) {
+        let kept = item.a == 0;
+        match operand.sort {
+            Sort::Constant if kept => self.stands_for(item, Meaning::Constant, &operand),
+            Sort::Word if kept => {
+                self.word_of(operand);
+                self.stands_for(item, Meaning::Fixed, &operand);
+            }
+            Sort::Temporary if operand.register < MOST_WORDS => {
+                self.state = self.state.with_word(operand.register);
+                self.stands_for(item, Meaning::Word, &operand);
+            }
+            _ => self.bind_copy(item, operand),
         }
     }
 
-    /// What a word parameter stands for. A name that the routine does not set is used where it stands.
-    fn word_symbol(&mut self, item: &Item, operand: Operand) -> Result<Symbol, Fault> {
-        let name = self.name(item.at);
-        if operand.sort == Sort::Constant && item.a == 0 {
-            return Ok(stands_for(name, item.at, Meaning::Constant, &operand));
-        }
-        if operand.sort == Sort::Word && item.a == 0 {
-            let register = self.word_of(operand)?;
-            let there = Operand {
-                register,
-                ..operand
-            };
-            return Ok(stands_for(name, item.at, Meaning::Fixed, &there));
-        }
-        if operand.sort == Sort::Temporary && operand.register < MOST_WORDS {
-            self.state = self.state.with_word(operand.register);
-            return Ok(stands_for(name, item.at, Meaning::Word, &operand));
-        }
-        let register = self.take_word(item.at)?;
-        self.move_to(operand, register, operand.at)?;
+    /// Names a word of its own for a word parameter, with the value in it.
+    fn bind_copy(&mut self, item: &Item, operand: Operand) {
+        let register = self.take_word(item.at);
+        self.move_to(operand, register, operand.at);
         self.state = self.state.with_word(register);
-        Ok(stands_for(
-            name,
-            item.at,
+        self.stands_for(
+            item,
             Meaning::Word,
             &value(Sort::Word, item.at, register, 0),
-        ))
+        );
     }
 
-    /// What a pointer parameter stands for.
-    fn pointer_symbol(&self, item: &Item, operand: Operand) -> Result<Symbol, Fault> {
-        self.pointer_of(operand)?;
-        let bytes = self.declared.constant(self.text, item.a)?;
-        if operand.value < bytes {
-            return Err(Fault {
-                number: operand.value,
-                ..Fault::new(Why::PastEnd, operand.at)
-            });
+    /// Names a block parameter.
+    fn bind_block(&mut self, item: &Item, operand: Operand) {
+        let slot = self.slot_of(operand);
+        if !is_of_kind(self.held(slot), item.a) {
+            self.refuse(Why::Kinds, operand.at);
         }
-        let structure = if item.a < NUMBERS {
+        self.stands_for(item, Meaning::Block, &operand);
+    }
+
+    /// Names a pointer parameter.
+    fn bind_pointer(&mut self, item: &Item, operand: Operand) {
+        self.pointer_of(operand);
+        let bytes = self.constant(item.a);
+        if operand.value < bytes {
+            self.refuse_by(Why::PastEnd, operand.at, operand.value);
+        }
+        let mut pointer = operand;
+        pointer.structure = if item.a < NUMBERS {
             NOWHERE
         } else {
-            self.declared
-                .find(&self.name(item.a - NUMBERS))
-                .unwrap_or(NOWHERE)
+            let name = self.name(item.a - NUMBERS);
+            self.declared.find(&name).unwrap_or(NOWHERE)
         };
-        Ok(Symbol {
-            structure,
-            ..stands_for(self.name(item.at), item.at, Meaning::Pointer, &operand)
-        })
-    }
-
-    /// What a parameter stands for.
-    fn parameter_symbol(&mut self, item: &Item, operand: Operand) -> Result<Symbol, Fault> {
-        match item.kind {
-            ItemKind::WordParam => self.word_symbol(item, operand),
-            ItemKind::BlockParam => {
-                let slot = self.slot_of(operand)?;
-                if !is_of_kind(self.held(slot), item.a) {
-                    return Err(Fault::new(Why::Kinds, operand.at));
-                }
-                Ok(stands_for(self.name(item.at), item.at, Meaning::Block, &operand))
-            }
-            _ => self.pointer_symbol(item, operand),
-        }
+        self.stands_for(item, Meaning::Pointer, &pointer);
     }
 
     /// The item of a routine's parameter.
-    pub(crate) fn parameter(&self, routine: usize, k: usize, at: u32) -> Result<Item, Fault> {
+    pub(crate) fn parameter(&mut self, routine: usize, k: usize, at: u32) -> Option<Item> {
         let index = routine.saturating_add(1).saturating_add(k);
-        match self.items.get(index) {
-            Some(item) => Ok(*item),
-            None => Err(Fault::new(Why::Arguments, at)),
+        let item = self.declared.item(index);
+        if item.is_none() {
+            self.refuse(Why::Arguments, at);
         }
+        item
     }
 
     /// Names the parameters of a routine for the values of a call. The names of the caller are not known from here on.
-    fn bind_parameters(&mut self, routine: usize, count: usize, at: u32) -> Result<(), Fault> {
+    fn bind_parameters(&mut self, routine: usize, count: usize, at: u32) {
         let base = self.symbols.len();
         for k in 0..count {
-            let item = self.parameter(routine, k, at)?;
-            let operand = self.operand(count - 1 - k, at)?;
-            let symbol = self.parameter_symbol(&item, operand)?;
-            match self.symbols.push(symbol) {
-                Ok(()) => {}
-                Err(_) => return Err(Fault::new(Why::Memory, at)),
+            let Some(item) = self.parameter(routine, k, at) else {
+                break;
+            };
+            let operand = self.operand(count - 1 - k, at);
+            match item.kind {
+                ItemKind::WordParam => self.bind_word(&item, operand),
+                ItemKind::BlockParam => self.bind_block(&item, operand),
+                _ => self.bind_pointer(&item, operand),
             }
         }
         self.base = base;
-        Ok(())
     }
 
     /// Where the refusals of a call go: the routine may be refused if its declaration says so.
-    fn fails_to(&self, head: &Item, item: &Item) -> Result<u16, Fault> {
+    fn fails_to(&mut self, head: &Item, item: &Item) -> u16 {
+        let asks = item.b != 0;
         if head.a & 4 != 0 {
-            return self.refusal_way(item.b != 0, item.at);
+            return self.refusal_way(asks, item.at);
         }
-        if item.b != 0 {
-            return Err(Fault::new(Why::NotRefusable, item.at));
+        if asks {
+            self.refuse(Why::NotRefusable, item.at);
         }
-        Ok(NOWHERE)
+        NOWHERE
     }
 
-    /// The words of an inlined routine begin behind those that its arguments take.
+    /// The words of an inlined routine begin after those that its arguments take.
     fn start(&mut self, count: usize) {
         let len = self.operands.len();
         self.operands.truncate(len.saturating_sub(count));
@@ -165,69 +158,86 @@ impl Placer<'_> {
         self.asks = false;
     }
 
-    /// A call of a routine, whose arguments are the last values: control goes on with its statements.
-    pub(crate) fn routine_call(&mut self, item: &Item, name: &Name) -> Result<(), Fault> {
-        let at = item.at;
-        let routine = self.routine_named(name, at)?;
-        let count = item.a as usize;
-        let Some(head) = self.items.get(routine.item).copied() else {
-            return Err(Fault::new(Why::Unknown, at));
-        };
-        if head.a & 1 != 0 {
-            return Err(Fault::new(Why::Public, at));
-        }
-        if item.a != head.b || count > self.operand_count() {
-            return Err(Fault {
-                number: head.b.min(255) as u16,
-                ..Fault::new(Why::Arguments, at)
-            });
-        }
-        let fails = self.fails_to(&head, item)?;
-        let gives = head.a & 8 != 0;
-        let register = if gives { self.lowest(count, at)? } else { 0 };
+    /// The word for the result of a routine, if it has one.
+    fn result_word(&mut self, gives: bool, count: usize, at: u32) -> u8 {
+        let register = if gives { self.lowest(count, at) } else { 0 };
         if register >= MOST_WORDS {
-            return Err(Fault::new(Why::NoWordLeft, at));
+            self.refuse(Why::NoWordLeft, at);
         }
-        let frame = Frame {
-            register,
-            refusable: head.a & 4 != 0,
-            gives,
-            fails,
-            back: self.next,
-            routine: routine.item,
-            level: self.block(at)?,
-            ..self.frame(Construct::Inlined, at)
-        };
-        self.bind_parameters(routine.item, count, at)?;
-        self.begin(frame)?;
-        self.start(count);
-        self.next = routine.item.saturating_add(1).saturating_add(count);
-        Ok(())
+        register
     }
 
-    /// An inlined routine is over: its result takes the place of the call, and control goes on behind that.
-    pub(crate) fn return_inlined(&mut self, at: u32) -> Result<(), Fault> {
-        let frame = self.finish(at)?;
-        if frame.gives && self.state.alive {
-            return Err(Fault::new(Why::Values, at));
+    /// A call of a routine, whose arguments are the last values: control goes on with its statements.
+    pub(crate) fn routine_call(&mut self, item: &Item, name: &Name) {
+        let at = item.at;
+        let Some(routine) = self.routine_named(name, at) else {
+            return;
+        };
+        let count = item.a as usize;
+        let Some(head) = self.declared.item(routine.item) else {
+            return self.refuse(Why::Unknown, at);
+        };
+        if head.a & 1 != 0 {
+            return self.refuse(Why::Public, at);
         }
-        self.end(at)?;
+        if item.a != head.b || count > self.operand_count() {
+            return self.refuse_by(Why::Arguments, at, head.b.min(255) as u16);
+        }
+        let gives = head.a & 8 != 0;
+        let running = Running {
+            routine: routine.item,
+            fails: self.fails_to(&head, item),
+            refusable: head.a & 4 != 0,
+            gives,
+            register: self.result_word(gives, count, at),
+            level: self.block(at),
+            back: self.next,
+            base: self.base,
+            floor: self.floor,
+            callers: self.callers,
+            handler: self.handler,
+            asks: self.asks,
+        };
+        let frame = self.frame(Construct::Inlined, at);
+        self.bind_parameters(routine.item, count, at);
+        self.begin(frame);
+        self.run(running, at);
+        self.start(count);
+        self.next = routine.item.saturating_add(1).saturating_add(count);
+    }
+
+    /// A routine begins.
+    pub(crate) fn run(&mut self, running: Running, at: u32) {
+        if self.running.push(running).is_err() {
+            self.refuse(Why::Memory, at);
+        }
+    }
+
+    /// An inlined routine is over: its result takes the place of the call, and control goes on after that.
+    pub(crate) fn return_inlined(&mut self, at: u32) {
+        let frame = self.finish(at);
+        let Some(call) = self.running.pop() else {
+            return self.refuse(Why::Unreached, at);
+        };
+        if call.gives && self.state.alive {
+            return self.refuse(Why::Values, at);
+        }
+        self.end(at);
         if !self.state.alive {
-            return Err(Fault::new(Why::NoEnd, frame.at));
+            return self.refuse(Why::NoEnd, frame.at);
         }
         self.symbols.truncate(frame.symbols);
         self.named = frame.named;
         self.named_pointers = frame.pointers;
-        self.base = frame.base;
-        self.floor = frame.floor;
-        self.callers = frame.callers;
-        self.handler = frame.handler;
-        self.asks = frame.asks;
-        self.next = frame.back;
-        if frame.gives {
-            self.words = frame.register;
-            self.push_result(frame.at)?;
+        self.base = call.base;
+        self.floor = call.floor;
+        self.callers = call.callers;
+        self.handler = call.handler;
+        self.asks = call.asks;
+        self.next = call.back;
+        if call.gives {
+            self.words = call.register;
+            self.push_result(frame.at);
         }
-        Ok(())
     }
 }

@@ -1,146 +1,166 @@
 //! Ways out of constructs.
 
 use crate::placed::{NOWHERE, with_number};
-use crate::placer::{Construct, Frame, Placer};
+use crate::placer::{Construct, Placer, Running};
 use crate::state::WHY;
 use geos_opcodes::Opcode;
-use tkv_syntax::{Fault, Item, Why};
+use tkv_syntax::{Item, Why};
 
-impl Placer<'_> {
-    /// The innermost routine.
-    pub(crate) fn routine_frame(&self, at: u32) -> Result<Frame, Fault> {
-        for frame in self.frames.iter().rev() {
-            if matches!(frame.construct, Construct::Routine | Construct::Inlined) {
-                return Ok(*frame);
-            }
+impl Placer {
+    /// The innermost routine, with the place of its block and its result.
+    fn innermost_routine(&mut self, at: u32) -> Option<Running> {
+        let running = self.running.last().copied();
+        if running.is_none() {
+            self.refuse(Why::Unreached, at);
         }
-        Err(Fault::new(Why::Unreached, at))
+        running
+    }
+
+    /// Where the refusals of the innermost routine go.
+    fn routine_way(&mut self, at: u32) -> u16 {
+        match self.innermost_routine(at) {
+            Some(running) => {
+                if running.refusable {
+                    return running.fails;
+                }
+                if running.gives {
+                    self.refuse(Why::NoWayOut, at);
+                }
+                running.level
+            }
+            None => NOWHERE,
+        }
     }
 
     /// Where a refusal with `?` goes, and `fail`.
-    pub(crate) fn way_out(&self, at: u32) -> Result<u16, Fault> {
+    pub(crate) fn way_out(&mut self, at: u32) -> u16 {
+        let mut level = NOWHERE;
         for frame in self.frames.iter().rev() {
             match frame.construct {
-                Construct::Try => return Ok(frame.level.saturating_add(1)),
-                Construct::Routine => return Ok(frame.level),
-                Construct::Inlined => {
-                    if frame.refusable {
-                        return Ok(frame.fails);
-                    }
-                    if frame.gives {
-                        return Err(Fault::new(Why::NoWayOut, at));
-                    }
-                    return Ok(frame.level);
+                Construct::Try => {
+                    level = frame.level.saturating_add(1);
+                    break;
                 }
-                _ => {}
-            }
-        }
-        Err(Fault::new(Why::NoWayOut, at))
-    }
-
-    /// The innermost loop of the routine.
-    fn loop_frame(&self, at: u32) -> Result<Frame, Fault> {
-        for frame in self.frames.iter().rev() {
-            match frame.construct {
-                Construct::Turns | Construct::For => return Ok(*frame),
                 Construct::Routine | Construct::Inlined => break,
                 _ => {}
             }
         }
-        Err(Fault::new(Why::NoLoop, at))
+        if level == NOWHERE {
+            self.routine_way(at)
+        } else {
+            level
+        }
     }
 
-    pub(crate) fn break_out(&mut self, at: u32) -> Result<(), Fault> {
-        let frame = self.loop_frame(at)?;
-        self.leave(frame.level, at)
+    /// The block of the innermost loop of the routine.
+    fn loop_level(&mut self, at: u32) -> u16 {
+        let mut level = NOWHERE;
+        for frame in self.frames.iter().rev() {
+            match frame.construct {
+                Construct::Turns | Construct::For => {
+                    level = frame.level;
+                    break;
+                }
+                Construct::Routine | Construct::Inlined => break,
+                _ => {}
+            }
+        }
+        if level == NOWHERE {
+            self.refuse(Why::NoLoop, at);
+        }
+        level
+    }
+
+    pub(crate) fn break_out(&mut self, at: u32) {
+        let level = self.loop_level(at);
+        self.leave(level, at);
     }
 
     /// Control goes to the end of a turn: of the block within the loop, which is two further in than that around it.
-    pub(crate) fn continue_loop(&mut self, at: u32) -> Result<(), Fault> {
-        let frame = self.loop_frame(at)?;
-        self.leave(frame.level.saturating_add(2), at)
+    pub(crate) fn continue_loop(&mut self, at: u32) {
+        let level = self.loop_level(at);
+        self.leave(level.saturating_add(2), at);
     }
 
     /// `fail`, with a number if one is before it.
-    pub(crate) fn fail(&mut self, item: &Item) -> Result<(), Fault> {
+    pub(crate) fn fail(&mut self, item: &Item) {
         let at = item.at;
         if item.a != 0 {
-            let operand = self.operand(0, at)?;
-            let number = self.number_of(operand)?;
+            let operand = self.operand(0, at);
+            let number = self.number_of(operand);
             if number == 0 {
-                return Err(Fault::new(Why::NoConstant, at));
+                return self.refuse(Why::NoConstant, at);
             }
-            self.act(with_number(Opcode::Ldi, WHY, 0, number), at)?;
+            self.act(with_number(Opcode::Ldi, WHY, 0, number), at);
             self.state = self.state.with_word(WHY);
         }
         self.clear();
-        let to = self.way_out(at)?;
-        self.leave(to, at)
+        let to = self.way_out(at);
+        self.leave(to, at);
     }
 
     /// `return`, with the result of the routine if it has one.
-    pub(crate) fn give_back(&mut self, item: &Item) -> Result<(), Fault> {
+    pub(crate) fn give_back(&mut self, item: &Item) {
         let at = item.at;
-        let frame = self.routine_frame(at)?;
-        if frame.gives != (item.a != 0) {
-            return Err(Fault::new(Why::Values, at));
+        let Some(running) = self.innermost_routine(at) else {
+            return;
+        };
+        if running.gives != (item.a != 0) {
+            return self.refuse(Why::Values, at);
         }
-        if frame.gives {
-            let operand = self.operand(0, at)?;
-            self.move_to(operand, frame.register, at)?;
+        if running.gives {
+            let operand = self.operand(0, at);
+            self.move_to(operand, running.register, at);
         }
         self.clear();
-        self.leave(frame.level, at)
+        self.leave(running.level, at);
     }
 
-    /// What takes refusals begins: a block around all, and one around what may be refused.
-    pub(crate) fn attempt(&mut self, construct: Construct, at: u32) -> Result<(), Fault> {
-        let frame = self.frame(construct, at);
-        let level = self.block(at)?;
-        self.block(at)?;
-        self.begin(Frame { level, ..frame })
+    /// What takes refusals begins: a block around all, and one around what may be refused. The number of the first.
+    pub(crate) fn attempt(&mut self, construct: Construct, at: u32) -> u16 {
+        let mut frame = self.frame(construct, at);
+        frame.level = self.block(at);
+        self.block(at);
+        self.begin(frame);
+        frame.level
     }
 
     /// What may be refused is over, and what takes refusals follows.
-    pub(crate) fn attempted(&mut self, at: u32) -> Result<(), Fault> {
-        let frame = self.innermost(at)?;
-        self.leave_if_alive(frame.level, at)?;
-        if frame.construct == Construct::Try {
+    pub(crate) fn attempted(&mut self, at: u32) {
+        let frame = self.innermost(at);
+        self.leave_if_alive(frame.level, at);
+        if matches!(frame.construct, Construct::Try) {
             self.restore(&frame);
         }
-        self.end(at)?;
+        self.end(at);
         if !self.state.alive {
-            return Err(Fault::new(Why::NothingRefused, at));
+            self.refuse(Why::NothingRefused, at);
         }
         self.turn_into(Construct::Tried);
-        Ok(())
     }
 
     /// What took refusals is over.
-    pub(crate) fn attempt_end(&mut self, at: u32) -> Result<(), Fault> {
-        let frame = self.finish(at)?;
+    pub(crate) fn attempt_end(&mut self, at: u32) {
+        let frame = self.finish(at);
         self.restore(&frame);
-        self.end(at)
+        self.end(at);
     }
 
     /// A statement begins.
-    pub(crate) fn begin_statement(&mut self, item: &Item) -> Result<(), Fault> {
+    pub(crate) fn begin_statement(&mut self, item: &Item) {
         self.clear();
         self.asks = item.b != 0;
         self.handler = NOWHERE;
-        if item.a == 0 {
-            return Ok(());
+        if item.a != 0 {
+            let level = self.attempt(Construct::Handler, item.at);
+            self.handler = level.saturating_add(1);
         }
-        self.attempt(Construct::Handler, item.at)?;
-        let frame = self.innermost(item.at)?;
-        self.handler = frame.level.saturating_add(1);
-        Ok(())
     }
 
     /// The handler of a statement begins. Names of the statement stay known.
-    pub(crate) fn handle(&mut self, at: u32) -> Result<(), Fault> {
+    pub(crate) fn handle(&mut self, at: u32) {
         self.clear();
-        self.attempted(at)?;
+        self.attempted(at);
         self.handler = NOWHERE;
         let (named, pointers, symbols) = (self.named, self.named_pointers, self.symbols.len());
         if let Some(frame) = self.frames.last_mut() {
@@ -148,6 +168,5 @@ impl Placer<'_> {
             frame.pointers = pointers;
             frame.symbols = symbols;
         }
-        Ok(())
     }
 }

@@ -7,7 +7,7 @@ use crate::placer::{Construct, Frame, Held, Meaning, Placer, Sort, Symbol};
 use crate::state::bit;
 use geos_image::Instr;
 use geos_opcodes::{FIELDS, Field, Opcode, Operand as Holds, operand_at};
-use tkv_syntax::{Fault, Item, NONE, Why};
+use tkv_syntax::{Item, NONE, Why};
 
 /// What a slot holds that the instruction locks a block into, and what gives it back.
 fn locked(opcode: Opcode) -> (Held, Opcode) {
@@ -16,6 +16,16 @@ fn locked(opcode: Opcode) -> (Held, Opcode) {
         Opcode::Ilock => (Held::Group, Opcode::Iunlock),
         _ => (Held::Mem, Opcode::Munlock),
     }
+}
+
+/// Whether the instruction makes the block that it locks.
+fn makes(opcode: Opcode) -> bool {
+    matches!(opcode, Opcode::Mnew | Opcode::Vnew)
+}
+
+/// How many arguments a lock has: a handle that is made counts as one.
+fn lock_arguments(opcode: Opcode) -> usize {
+    argument_count(opcode).saturating_sub(1) + usize::from(makes(opcode))
 }
 
 /// A lock that is being placed.
@@ -29,9 +39,9 @@ struct Locking {
     way: u16,
 }
 
-impl Placer<'_> {
-    /// The instruction of a lock, whose arguments are the last values; the word that a handle goes to is set behind it.
-    fn lock_instr(&mut self, locking: &Locking, at: u32) -> Result<Instr, Fault> {
+impl Placer {
+    /// The instruction of a lock, whose arguments are the last values; the word that a handle goes to is set after it.
+    fn lock_instr(&mut self, locking: &Locking, at: u32) -> Instr {
         let mut instr = bare(locking.opcode);
         let mut left = locking.count;
         for field in FIELDS {
@@ -39,32 +49,23 @@ impl Placer<'_> {
             let free = matches!(field, Field::A | Field::Target)
                 || matches!(holds, Holds::Unused | Holds::Pointer);
             if !free {
-                let operand = self.operand(left.saturating_sub(1), at)?;
                 left = left.saturating_sub(1);
-                let handle = operand.sort == Sort::Handle;
-                let makes = matches!(locking.opcode, Opcode::Mnew | Opcode::Vnew);
-                if handle != (makes && matches!(field, Field::B)) {
-                    return Err(Fault::new(Why::NotSettable, operand.at));
+                let operand = self.operand(left, at);
+                let handle = matches!(operand.sort, Sort::Handle);
+                if handle != (makes(locking.opcode) && matches!(field, Field::B)) {
+                    self.refuse(Why::NotSettable, operand.at);
                 }
-                let number = self.argument(holds, operand)?;
+                let number = self.argument(holds, operand);
                 instr = with_field(instr, field, number);
             }
         }
-        Ok(Instr {
-            a: locking.slot,
-            ..instr
-        })
-    }
-
-    /// How many arguments a lock has: a handle that is made counts as one.
-    fn lock_arguments(opcode: Opcode) -> usize {
-        let makes = matches!(opcode, Opcode::Mnew | Opcode::Vnew);
-        argument_count(opcode).saturating_sub(1) + usize::from(makes)
+        instr.a = locking.slot;
+        instr
     }
 
     /// What is known of a block that was made: it differs from others of its kind, and one of the file is marked.
     fn note_new(&mut self, locking: &Locking, held: Held) {
-        if !matches!(locking.opcode, Opcode::Mnew | Opcode::Vnew) {
+        if !makes(locking.opcode) {
             return;
         }
         for other in 0..4 {
@@ -80,16 +81,10 @@ impl Placer<'_> {
     }
 
     /// Names the block, and the pointer if the lock gives one.
-    fn name_locked(
-        &mut self,
-        item: &Item,
-        slot: u8,
-        pointer: u8,
-        bytes: (u16, u16),
-    ) -> Result<(), Fault> {
-        self.declare_as(Meaning::Block, item.a, slot)?;
+    fn name_locked(&mut self, item: &Item, slot: u8, pointer: u8, bytes: (u16, u16)) {
+        self.declare_as(Meaning::Block, item.a, slot);
         if item.b == NONE {
-            return Ok(());
+            return;
         }
         self.named_pointers = self.pointers;
         self.declare(Symbol {
@@ -100,100 +95,79 @@ impl Placer<'_> {
             value: bytes.0,
             structure: bytes.1,
             last: usize::MAX,
-        })
+        });
     }
 
     /// The way of a lock's refusal. If no `?` follows, its handler gets blocks: the number of the outermost.
-    fn lock_way(&mut self, item: &Item) -> Result<(u16, u16), Fault> {
+    fn lock_way(&mut self, item: &Item) -> (u16, u16) {
         if item.c >= 256 {
-            let way = self.way_out(item.at)?;
-            return Ok((NOWHERE, way));
+            return (NOWHERE, self.way_out(item.at));
         }
-        let level = self.block(item.at)?;
-        let way = self.block(item.at)?;
-        Ok((level, way))
+        let level = self.block(item.at);
+        let way = self.block(item.at);
+        (level, way)
     }
 
     /// A block is locked for the statements that follow.
-    pub(crate) fn lock(&mut self, item: &Item) -> Result<(), Fault> {
+    pub(crate) fn lock(&mut self, item: &Item) {
         let at = item.at;
-        let opcode = match opcode_named(&self.name(at)) {
-            Some(opcode) => opcode,
-            None => return Err(Fault::new(Why::WantedLock, at)),
+        let Some(opcode) = opcode_named(&self.name(at)) else {
+            return self.refuse(Why::ExpectedLock, at);
         };
         let count = (item.c % 256) as usize;
-        let fetches = opcode == Opcode::Ilock;
+        let fetches = matches!(opcode, Opcode::Ilock);
         if !is_lock(opcode) || fetches != (item.b != NONE) {
-            return Err(Fault::new(Why::WantedLock, at));
+            return self.refuse(Why::ExpectedLock, at);
         }
-        let wanted = Self::lock_arguments(opcode);
-        if count != wanted || self.operand_count() != count {
-            return Err(Fault {
-                number: wanted.min(255) as u16,
-                ..Fault::new(Why::Arguments, at)
-            });
+        let takes = lock_arguments(opcode);
+        if count != takes || self.operand_count() != count {
+            return self.refuse_by(Why::Arguments, at, takes.min(255) as u16);
         }
-        let slot = self.free_slot(at)?;
-        let (level, way) = self.lock_way(item)?;
+        let slot = self.free_slot(at);
+        let (level, way) = self.lock_way(item);
         let locking = Locking {
             opcode,
             slot,
             count,
             way,
         };
-        self.place_lock(item, &locking, level)
+        self.place_lock(item, &locking, level);
     }
 
-    fn place_lock(&mut self, item: &Item, locking: &Locking, level: u16) -> Result<(), Fault> {
+    fn place_lock(&mut self, item: &Item, locking: &Locking, level: u16) {
         let at = item.at;
-        let frame = self.frame(Construct::Lock, at);
-        let instr = self.lock_instr(locking, at)?;
-        let last = self.operand(0, at)?;
-        let fetches = locking.opcode == Opcode::Ilock;
-        let structure = if last.sort == Sort::Structure {
-            last.structure
-        } else {
-            NOWHERE
-        };
-        self.clear();
-        let (held, gives_back) = locked(locking.opcode);
-        let pointer = if fetches {
-            self.take_pointer(locking.slot, at)?
-        } else {
-            0
-        };
-        let made = if fetches {
-            Instr {
-                b: pointer,
-                ..instr
-            }
-        } else {
-            instr
-        };
-        self.act_to(made, locking.way, at)?;
-        let unlock = with_registers(gives_back, locking.slot, 0, 0);
-        self.enter(PlacedKind::Closing, unlock, locking.slot, at)?;
-        self.begin(Frame {
+        let frame = Frame {
             level,
             register: locking.slot,
-            ..frame
-        })?;
+            ..self.frame(Construct::Lock, at)
+        };
+        let mut instr = self.lock_instr(locking, at);
+        let structure = self.operand(0, at).structure_of();
+        self.clear();
+        let fetches = matches!(locking.opcode, Opcode::Ilock);
+        if fetches {
+            instr.b = self.take_pointer(locking.slot, at);
+        }
+        self.act_to(instr, locking.way, at);
+        let (held, gives_back) = locked(locking.opcode);
+        let unlock = with_registers(gives_back, locking.slot, 0, 0);
+        self.enter(PlacedKind::Closing, unlock, locking.slot, at);
+        self.begin(frame);
         self.hold(locking.slot, held);
-        self.name_locked(item, locking.slot, pointer, (instr.imm, structure))?;
+        self.name_locked(item, locking.slot, instr.b, (instr.imm, structure));
         self.note_new(locking, held);
         if fetches {
-            self.state = self.state.with_pointer(pointer);
+            self.state = self.state.with_pointer(instr.b);
         }
-        if matches!(locking.opcode, Opcode::Mnew | Opcode::Vnew) {
+        if makes(locking.opcode) {
             self.state = self.state.with_word(instr.b);
         }
-        Ok(())
     }
 
     /// The statements for which a block is locked are over.
-    pub(crate) fn lock_end(&mut self, at: u32) -> Result<(), Fault> {
-        let frame = self.innermost(at)?;
-        self.end(at)?;
+    pub(crate) fn lock_end(&mut self, at: u32) {
+        let frame = self.innermost(at);
+        self.end(at);
         for k in 0..4 {
             if self.leads[k] == frame.register {
                 self.leads[k] = 4;
@@ -203,22 +177,20 @@ impl Placer<'_> {
         self.hold(frame.register, Held::Free);
         self.restore(&frame);
         if frame.level != NOWHERE {
-            self.leave_if_alive(frame.level, at)?;
+            self.leave_if_alive(frame.level, at);
         }
-        Ok(())
     }
 
     /// The lock was refused, and is handled.
-    pub(crate) fn lock_refused(&mut self, at: u32) -> Result<(), Fault> {
-        self.end(at)
+    pub(crate) fn lock_refused(&mut self, at: u32) {
+        self.end(at);
     }
 
-    pub(crate) fn lock_done(&mut self, at: u32) -> Result<(), Fault> {
-        let frame = self.finish(at)?;
+    pub(crate) fn lock_done(&mut self, at: u32) {
+        let frame = self.finish(at);
         self.restore(&frame);
         if frame.level != NOWHERE {
-            self.end(at)?;
+            self.end(at);
         }
-        Ok(())
     }
 }

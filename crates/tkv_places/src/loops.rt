@@ -2,233 +2,224 @@
 
 use crate::names::value;
 use crate::placed::{PlacedKind, with_number, with_registers};
-use crate::placer::{Construct, Frame, MOST_WORDS, Meaning, Operand, Placer, Sort};
+use crate::placer::{Construct, Frame, MOST_WORDS, Meaning, Operand, Placer, Sort, Turns};
 use crate::state::{WHY, below, bit};
 use geos_opcodes::Opcode;
-use tkv_syntax::{Fault, Item, Why};
+use tkv_syntax::{Item, Why};
 
 /// No word counts.
 const UNCOUNTED: u8 = 255;
 
-impl Placer<'_> {
-    fn take_counter(&mut self, at: u32) -> Result<u8, Fault> {
-        if self.counters >= 4 {
-            return Err(Fault::new(Why::NoCounterLeft, at));
-        }
+/// What a loop counts: from a value to another one, by a step.
+#[derive(Clone, Copy)]
+struct Counting {
+    low: Operand,
+    high: Operand,
+    step: u16,
+    counter: u8,
+}
+
+impl Counting {
+    /// Whether the number of turns is known.
+    fn is_known(&self) -> bool {
+        self.low.is_constant() && self.high.is_constant()
+    }
+}
+
+impl Placer {
+    fn take_counter(&mut self, at: u32) -> u8 {
         let counter = self.counters;
+        if counter >= 4 {
+            self.refuse(Why::NoCounterLeft, at);
+            return 0;
+        }
         self.counters = counter + 1;
-        Ok(counter)
+        counter
     }
 
     /// The turns begin, with what holds in each of them.
-    fn begin_turns(&mut self, kind: PlacedKind, frame: Frame) -> Result<(), Fault> {
+    fn begin_turns(&mut self, frame: Frame, counted: u8, step: u16, counts_first: bool) {
         let at = frame.at;
         let words = (self.needed_words() | below(self.callers)) & !bit(WHY);
         self.state.words &= words;
         self.state.pointers &= below(self.named_pointers);
-        let turn = with_registers(Opcode::Loop, frame.register, 0, 0);
-        self.enter(kind, turn, 255, at)?;
-        self.block(at)?;
-        self.begin(Frame {
+        let kind = if counts_first {
+            PlacedKind::Count
+        } else {
+            PlacedKind::Loop
+        };
+        self.enter(
+            kind,
+            with_registers(Opcode::Loop, frame.register, 0, 0),
+            255,
+            at,
+        );
+        self.block(at);
+        self.begin(frame);
+        let turns = Turns {
+            counted,
+            step,
             head: self.state,
-            ..frame
-        })
+            counts_first,
+        };
+        if self.turns.push(turns).is_err() {
+            self.refuse(Why::Memory, at);
+        }
+    }
+
+    /// A loop, in its block and with its counter.
+    fn loop_frame(&mut self, construct: Construct, at: u32) -> Frame {
+        let mut frame = self.frame(construct, at);
+        frame.register = self.take_counter(at);
+        frame.level = self.block(at);
+        frame
     }
 
     /// `while` and `loop`: at most so many turns.
-    pub(crate) fn turns(&mut self, item: &Item) -> Result<(), Fault> {
+    pub(crate) fn bounded_turns(&mut self, item: &Item) {
         let at = item.at;
-        let most = self.declared.constant(self.text, item.a)?;
+        let most = self.constant(item.a);
         if most == 0 {
-            return Err(Fault::new(Why::NoTurn, at));
+            return self.refuse(Why::NoTurn, at);
         }
-        let frame = self.frame(Construct::Turns, at);
-        let counter = self.take_counter(at)?;
-        let level = self.block(at)?;
-        self.act(with_number(Opcode::Setk, counter, 0, most - 1), at)?;
-        self.foresee(at)?;
-        self.begin_turns(
-            PlacedKind::Loop,
-            Frame {
-                level,
-                register: counter,
-                counted: UNCOUNTED,
-                ..frame
-            },
-        )?;
+        let frame = self.loop_frame(Construct::Turns, at);
+        self.act(with_number(Opcode::Setk, frame.register, 0, most - 1), at);
+        self.foresee(at);
+        self.begin_turns(frame, UNCOUNTED, 1, false);
         if item.b != 0 {
-            self.block(at)?;
+            self.block(at);
         }
-        Ok(())
     }
 
     /// The word that counts, set to the value at which counting begins.
-    fn counting_word(&mut self, low: Operand, at: u32) -> Result<u8, Fault> {
-        let register = if low.sort == Sort::Temporary && low.register < MOST_WORDS {
+    fn counting_word(&mut self, low: Operand, at: u32) -> u8 {
+        let register = if low.is_temporary() && low.register < MOST_WORDS {
             low.register
         } else {
-            let register = self.take_named(at)?;
-            self.move_to(low, register, at)?;
+            let register = self.take_named(at);
+            self.move_to(low, register, at);
             register
         };
         self.keep_word(register);
         self.state = self.state.with_word(register);
-        Ok(register)
+        register
     }
 
     /// Turns whose number is known.
-    fn known_turns(
-        &mut self,
-        counter: u8,
-        low: Operand,
-        high: Operand,
-        step: u16,
-        at: u32,
-    ) -> Result<(), Fault> {
-        if step == 0 {
-            return Err(Fault::new(Why::NoTurn, at));
+    fn known_turns(&mut self, counting: &Counting, at: u32) {
+        let span = counting.high.value.saturating_sub(counting.low.value);
+        if span == 0 || counting.step == 0 {
+            return self.refuse(Why::NoTurn, at);
         }
-        let span = u32::from(high.value.saturating_sub(low.value));
-        let turns = (span + u32::from(step) - 1) / u32::from(step);
-        if turns == 0 || turns > 65_536 {
-            return Err(Fault::new(Why::NoTurn, at));
-        }
-        self.act(
-            with_number(Opcode::Setk, counter, 0, (turns - 1) as u16),
-            at,
-        )
+        let more = (span - 1) / counting.step;
+        self.act(with_number(Opcode::Setk, counting.counter, 0, more), at);
     }
 
     /// Turns whose number is a word, from 0 on.
-    fn turns_to(&mut self, counter: u8, high: Operand, at: u32) -> Result<(), Fault> {
-        let register = self.word_of(high)?;
-        self.act(with_registers(Opcode::Setkw, counter, register, 0), at)
+    fn turns_to(&mut self, counting: &Counting, at: u32) {
+        let register = self.word_of(counting.high);
+        self.act(
+            with_registers(Opcode::Setkw, counting.counter, register, 0),
+            at,
+        );
     }
 
     /// Turns from one word to another; none if the first is not below the second.
-    fn turns_between(
-        &mut self,
-        counter: u8,
-        from: u8,
-        high: Operand,
-        level: u16,
-        at: u32,
-    ) -> Result<(), Fault> {
-        let register = self.word_of(high)?;
-        self.test_to(with_registers(Opcode::Blt, register, from, 0), level, at)?;
-        let count = self.take_word(at)?;
-        self.act(with_registers(Opcode::Sub, count, register, from), at)?;
-        self.act(with_registers(Opcode::Setkw, counter, count, 0), at)
+    fn turns_between(&mut self, counting: &Counting, from: u8, level: u16, at: u32) {
+        let register = self.word_of(counting.high);
+        self.test_to(with_registers(Opcode::Blt, register, from, 0), level, at);
+        let count = self.take_word(at);
+        self.act(with_registers(Opcode::Sub, count, register, from), at);
+        self.act(
+            with_registers(Opcode::Setkw, counting.counter, count, 0),
+            at,
+        );
     }
 
     /// Sets the counter and the word that counts, if one is to; which one.
-    fn count_from(
-        &mut self,
-        item: &Item,
-        frame: &Frame,
-        low: Operand,
-        high: Operand,
-        speaks: bool,
-    ) -> Result<u8, Fault> {
-        let at = item.at;
-        let known = low.sort == Sort::Constant && high.sort == Sort::Constant;
-        let zero = low.sort == Sort::Constant && low.value == 0;
-        if !known && frame.step != 1 {
-            return Err(Fault::new(Why::NoConstant, at));
-        }
-        if known {
-            self.known_turns(frame.register, low, high, frame.step, at)?;
-        } else if zero {
-            self.turns_to(frame.register, high, at)?;
+    fn count_from(&mut self, counting: &Counting, level: u16, speaks: bool, at: u32) -> u8 {
+        let low = counting.low;
+        if counting.is_known() {
+            self.known_turns(counting, at);
+        } else if counting.step != 1 {
+            self.refuse(Why::NoConstant, at);
+        } else if low.is_constant() && low.value == 0 {
+            self.turns_to(counting, at);
         } else {
-            let from = self.counting_word(low, at)?;
-            self.turns_between(frame.register, from, high, frame.level, at)?;
-            return Ok(from);
+            let from = self.counting_word(low, at);
+            self.turns_between(counting, from, level, at);
+            return from;
         }
         self.clear();
         if speaks {
             self.counting_word(low, at)
         } else {
-            Ok(UNCOUNTED)
+            UNCOUNTED
         }
     }
 
     /// `for`: the two values before it are where counting begins, and where it ends.
-    pub(crate) fn count(&mut self, item: &Item) -> Result<(), Fault> {
+    pub(crate) fn count(&mut self, item: &Item) {
         let at = item.at;
-        let step = self.declared.constant(self.text, item.a)?;
-        let high = self.operand(0, at)?;
-        let low = self.operand(1, at)?;
+        let step = self.constant(item.a);
+        let high = self.operand(0, at);
+        let low = self.operand(1, at);
         if step == 0 || self.operand_count() != 2 {
-            return Err(Fault::new(Why::NoTurn, at));
+            return self.refuse(Why::NoTurn, at);
         }
-        let counter = self.take_counter(at)?;
-        let frame = Frame {
-            register: counter,
+        let frame = self.loop_frame(Construct::For, at);
+        let counting = Counting {
+            low,
+            high,
             step,
-            level: self.block(at)?,
-            ..self.frame(Construct::For, at)
+            counter: frame.register,
         };
-        let speaks = self.foresee(at)?;
-        let counted = self.count_from(item, &frame, low, high, speaks)?;
+        let speaks = self.foresee(at);
+        let counted = self.count_from(&counting, frame.level, speaks, at);
         self.clear();
         if counted != UNCOUNTED {
-            self.declare_as(Meaning::Fixed, at, counted)?;
+            self.declare_as(Meaning::Fixed, at, counted);
             self.keep_word(counted);
         }
-        let known = low.sort == Sort::Constant && high.sort == Sort::Constant;
-        let kind = if known {
-            PlacedKind::Loop
-        } else {
-            PlacedKind::Count
-        };
-        self.begin_turns(
-            kind,
-            Frame {
-                counted,
-                counts_first: !known,
-                ..frame
-            },
-        )
+        self.begin_turns(frame, counted, step, !counting.is_known());
+    }
+
+    /// The word that counts goes on by the step.
+    fn step_on(&mut self, turns: &Turns, at: u32) {
+        let step = self.word_of(value(Sort::Constant, at, 0, turns.step));
+        let by = with_registers(Opcode::Add, turns.counted, turns.counted, step);
+        self.act(by, at);
+        self.clear();
     }
 
     /// A turn is over: the next one follows, if one is left.
-    pub(crate) fn turn_end(&mut self, at: u32) -> Result<(), Fault> {
-        let frame = self.innermost(at)?;
-        self.restore_turn(&frame);
-        self.end(at)?;
-        if self.state.alive && frame.counted != UNCOUNTED {
-            let step = self.word_of(value(Sort::Constant, at, 0, frame.step))?;
-            let by = with_registers(Opcode::Add, frame.counted, frame.counted, step);
-            self.act(by, at)?;
-            self.clear();
+    pub(crate) fn turn_end(&mut self, at: u32) {
+        let frame = self.innermost(at);
+        let Some(turns) = self.turns.pop() else {
+            return self.refuse(Why::Unreached, at);
+        };
+        self.restore(&frame);
+        if turns.counted != UNCOUNTED {
+            self.keep_word(turns.counted);
         }
-        if !frame.head.is_within(self.state) {
-            return Err(Fault {
-                other: frame.at,
-                ..Fault::new(Why::NotFetched, at)
-            });
+        self.end(at);
+        if self.state.alive && turns.counted != UNCOUNTED {
+            self.step_on(&turns, at);
         }
-        if frame.counts_first {
-            self.state = self.state.meet(frame.head);
+        if !turns.head.is_within(self.state) {
+            self.refuse_for(Why::NotFetched, at, frame.at);
         }
-        self.end(at)?;
+        if turns.counts_first {
+            self.state = self.state.meet(turns.head);
+        }
+        self.end(at);
         self.counters = self.counters.saturating_sub(1);
-        Ok(())
-    }
-
-    /// Names of the turn are forgotten, but for the word that counts.
-    fn restore_turn(&mut self, frame: &Frame) {
-        self.restore(frame);
-        if frame.counted != UNCOUNTED {
-            self.keep_word(frame.counted);
-        }
     }
 
     /// The loop is over, and what follows if all turns were used up.
-    pub(crate) fn loop_done(&mut self, at: u32) -> Result<(), Fault> {
-        let frame = self.finish(at)?;
+    pub(crate) fn loop_done(&mut self, at: u32) {
+        let frame = self.finish(at);
         self.restore(&frame);
-        self.end(at)
+        self.end(at);
     }
 }

@@ -4,7 +4,7 @@ use crate::declarations::opcode_named;
 use crate::placer::{Held, Loss, Meaning, Placer};
 use crate::state::bit;
 use geos_opcodes::SlotUse;
-use tkv_syntax::{Fault, Item, ItemKind, NONE, Why, name_at};
+use tkv_syntax::{Item, ItemKind, NONE, Why};
 
 /// Whether two slots hold blocks of one kind.
 fn are_alike(one: Held, other: Held) -> bool {
@@ -13,7 +13,7 @@ fn are_alike(one: Held, other: Held) -> bool {
         || (one == Held::Lent && other == Held::Vm)
 }
 
-impl Placer<'_> {
+impl Placer {
     /// A pointer is stale from here on.
     fn lose(&mut self, pointer: u8, at: u32) {
         if pointer < 4 && self.state.has_pointer(pointer) {
@@ -37,7 +37,7 @@ impl Placer<'_> {
     /// Items of groups may move.
     pub(crate) fn lose_groups(&mut self, at: u32) {
         for k in 0..4 {
-            if self.held(self.leads[k]) == Held::Group {
+            if matches!(self.held(self.leads[k]), Held::Group) {
                 self.lose(k as u8, at);
             }
         }
@@ -68,10 +68,10 @@ impl Placer<'_> {
         };
         match opcode.uses().slot {
             SlotUse::Moves => {
-                let block = self.symbol(&name_at(self.text, first));
+                let block = self.symbol(&self.name(first));
                 match block {
                     Some(symbol) => {
-                        if symbol.meaning == Meaning::Block {
+                        if matches!(symbol.meaning, Meaning::Block) {
                             self.lose_into(symbol.register, at);
                         }
                     }
@@ -89,30 +89,32 @@ impl Placer<'_> {
 #[derive(Drop)]
 struct Seen {
     names: Vec<u32>,
+    /// Where the allocation was refused, if one was.
+    refused: Option<u32>,
 }
 
 impl Seen {
-    fn push(&mut self, at: u32) -> Result<(), Fault> {
-        match self.names.push(at) {
-            Ok(()) => Ok(()),
-            Err(_) => Err(Fault::new(Why::Memory, at)),
+    fn push(&mut self, at: u32) {
+        if self.names.push(at).is_err() && self.refused.is_none() {
+            self.refused = Some(at);
         }
     }
 
-    /// Takes so many values away; where the first of them stands.
-    fn take(&mut self, count: u32) -> u32 {
+    /// Takes so many values away, and puts one that is no name in their place. Where the first of them stands.
+    fn join(&mut self, count: u32) -> u32 {
         let mut first = NONE;
         for _ in 0..count.min(16) {
             first = self.names.pop().unwrap_or(NONE);
         }
+        self.push(NONE);
         first
     }
 
     /// What follows a value item; for a call the place of its first argument.
-    fn follow(&mut self, item: &Item) -> Result<Option<u32>, Fault> {
+    fn follow(&mut self, item: &Item) -> Option<u32> {
         match item.kind {
-            ItemKind::Named => self.push(item.at)?,
-            ItemKind::Number | ItemKind::WhyValue | ItemKind::Handle => self.push(NONE)?,
+            ItemKind::Named => self.push(item.at),
+            ItemKind::Number | ItemKind::WhyValue | ItemKind::Handle => self.push(NONE),
             ItemKind::Add
             | ItemKind::Sub
             | ItemKind::Mul
@@ -121,49 +123,48 @@ impl Seen {
             | ItemKind::Mask
             | ItemKind::Left
             | ItemKind::Right => {
-                self.take(2);
-                self.push(NONE)?;
+                self.join(2);
             }
             ItemKind::Field => {
-                self.take(1 + item.a.min(1));
-                self.push(NONE)?;
+                self.join(1 + item.a.min(1));
             }
-            ItemKind::Call => {
-                let first = self.take(item.a);
-                self.push(NONE)?;
-                return Ok(Some(first));
-            }
+            ItemKind::Call => return Some(self.join(item.a)),
             _ => self.names.clear(),
         }
-        Ok(None)
+        None
     }
 }
 
-impl Placer<'_> {
+impl Placer {
     /// Goes over the turns of a loop, whose items follow: pointers are stale that they make stale. Whether they speak of the name.
-    pub(crate) fn foresee(&mut self, name_place: u32) -> Result<bool, Fault> {
+    pub(crate) fn foresee(&mut self, name_place: u32) -> bool {
         let name = self.name(name_place);
-        let items = self.items;
         let mut seen = Seen {
             names: Vec::new(self.alloc),
+            refused: None,
         };
         let mut depth: u32 = 1;
         let mut speaks = false;
-        let from = self.next.min(items.len());
-        for item in &items[from..] {
+        for index in self.next..self.declared.items().len() {
+            let Some(item) = self.declared.item(index) else {
+                break;
+            };
             match item.kind {
                 ItemKind::Turns | ItemKind::For => depth = depth.saturating_add(1),
                 ItemKind::TurnEnd => depth = depth.saturating_sub(1),
-                ItemKind::Named => speaks = speaks || name_at(self.text, item.at) == name,
+                ItemKind::Named => speaks = speaks || self.name(item.at) == name,
                 _ => {}
             }
             if depth == 0 {
                 break;
             }
-            if let Some(first) = seen.follow(item)? {
-                self.lose_by_call(item, first);
+            if let Some(first) = seen.follow(&item) {
+                self.lose_by_call(&item, first);
             }
         }
-        Ok(speaks)
+        if let Some(at) = seen.refused {
+            self.refuse(Why::Memory, at);
+        }
+        speaks
     }
 }

@@ -1,12 +1,12 @@
 //! Names, and the registers that they take.
 
-ghost use Rattle.std.specs.Prelude.{◌<◌, IfOk, IfSome};
+ghost use Rattle.std.specs.Prelude.{◌<◌, IfSome};
 
 use crate::declarations::Kind;
 use crate::placed::NOWHERE;
 use crate::placer::{Held, MOST_WORDS, Meaning, Operand, Placer, Sort, Symbol};
 use crate::state::bit;
-use tkv_syntax::{Fault, Item, ItemKind, Name, Why, name_at};
+use tkv_syntax::{Item, ItemKind, Name, Why};
 
 /// A value with these fields.
 pub(crate) fn value(sort: Sort, at: u32, register: u8, number: u16) -> Operand {
@@ -39,7 +39,7 @@ impl Need {
         if matches!(kind, ItemKind::Turns | ItemKind::For) {
             self.depth = self.depth.saturating_add(1);
         }
-        if kind == ItemKind::TurnEnd {
+        if matches!(kind, ItemKind::TurnEnd) {
             if self.depth == 0 {
                 return true;
             }
@@ -50,11 +50,11 @@ impl Need {
             }
         }
         self.index = self.index.saturating_add(1);
-        kind == ItemKind::BodyEnd
+        matches!(kind, ItemKind::BodyEnd)
     }
 }
 
-impl Placer<'_> {
+impl Placer {
     /// What a name of the routine stands for.
     pub(crate) fn symbol(&self, name: &Name) -> Option<Symbol> {
         for (k, symbol) in self.symbols.iter().enumerate() {
@@ -66,26 +66,22 @@ impl Placer<'_> {
     }
 
     /// Gives a name its meaning. The routine has no other name that is the same.
-    pub(crate) fn declare(&mut self, symbol: Symbol) -> Result<(), Fault> {
+    pub(crate) fn declare(&mut self, symbol: Symbol) {
         if let Some(old) = self.symbol(&symbol.name) {
-            return Err(Fault {
-                other: old.at,
-                ..Fault::new(Why::Twice, symbol.at)
-            });
+            return self.refuse_for(Why::Twice, symbol.at, old.at);
         }
-        match self.symbols.push(symbol) {
-            Ok(()) => Ok(()),
-            Err(_) => Err(Fault::new(Why::Memory, symbol.at)),
+        self.know(symbol);
+    }
+
+    /// Gives a name its meaning, which no other name of the routine has.
+    pub(crate) fn know(&mut self, symbol: Symbol) {
+        if self.symbols.push(symbol).is_err() {
+            self.refuse(Why::Memory, symbol.at);
         }
     }
 
     /// Names a register.
-    pub(crate) fn declare_as(
-        &mut self,
-        meaning: Meaning,
-        at: u32,
-        register: u8,
-    ) -> Result<(), Fault> {
+    pub(crate) fn declare_as(&mut self, meaning: Meaning, at: u32, register: u8) {
         self.declare(Symbol {
             name: self.name(at),
             at,
@@ -98,8 +94,8 @@ impl Placer<'_> {
     }
 
     /// Names a word that is free again after the last item that needs it.
-    pub(crate) fn declare_word(&mut self, at: u32, register: u8) -> Result<(), Fault> {
-        let last = self.last_need(at)?;
+    pub(crate) fn declare_word(&mut self, at: u32, register: u8) {
+        let last = self.last_need(at);
         self.declare(Symbol {
             name: self.name(at),
             at,
@@ -112,30 +108,33 @@ impl Placer<'_> {
     }
 
     /// The last item from here on that needs the name; in a loop that begins from here on, the end of a turn.
-    fn last_need(&mut self, at: u32) -> Result<usize, Fault> {
+    fn last_need(&mut self, at: u32) -> usize {
         let name = self.name(at);
-        let items = self.items;
-        let from = self.next.min(items.len());
+        let from = self.next;
         let mut need = Need {
             index: from,
             last: 0,
             depth: 0,
             waits: false,
         };
-        for item in &items[from..] {
+        for index in from..self.declared.items().len() {
+            let Some(item) = self.declared.item(index) else {
+                break;
+            };
             if self.effort == 0 {
-                return Err(Fault::new(Why::TooMany, at));
+                self.refuse(Why::TooMany, at);
+                break;
             }
             self.effort -= 1;
             let named = matches!(
                 item.kind,
                 ItemKind::Named | ItemKind::Assign | ItemKind::Handle
             );
-            if need.ends(item.kind, named && name_at(self.text, item.at) == name) {
+            if need.ends(item.kind, named && self.name(item.at) == name) {
                 break;
             }
         }
-        Ok(need.last)
+        need.last
     }
 
     /// The words that names of the routine need still.
@@ -178,25 +177,26 @@ impl Placer<'_> {
     }
 
     /// A free word for a name: the lowest.
-    pub(crate) fn take_named(&mut self, at: u32) -> Result<u8, Fault>
-        ensures { IfOk result (λ word. word < 7) }
+    pub(crate) fn take_named(&mut self, at: u32) -> u8
+        ensures { result < 7 }
     {
         match self.freed_word() {
-            Some(register) => Ok(register),
+            Some(register) => register,
             None => self.take_word(at),
         }
     }
 
     /// The lowest word that is free.
-    pub(crate) fn take_word(&mut self, at: u32) -> Result<u8, Fault>
-        ensures { IfOk result (λ word. word < 7) }
+    pub(crate) fn take_word(&mut self, at: u32) -> u8
+        ensures { result < 7 }
     {
         if self.words >= MOST_WORDS {
-            return Err(Fault::new(Why::NoWordLeft, at));
+            self.refuse(Why::NoWordLeft, at);
+            return 0;
         }
         let register = self.words;
         self.words = register + 1;
-        Ok(register)
+        register
     }
 
     /// A word that keeps its value to the end of the construct.
@@ -210,30 +210,32 @@ impl Placer<'_> {
     }
 
     /// The lowest pointer that is free, which will lead into the slot.
-    pub(crate) fn take_pointer(&mut self, slot: u8, at: u32) -> Result<u8, Fault>
-        ensures { IfOk result (λ pointer. pointer < 4) }
+    pub(crate) fn take_pointer(&mut self, slot: u8, at: u32) -> u8
+        ensures { result < 4 }
     {
         let register = self.pointers;
         if register >= 4 {
-            return Err(Fault::new(Why::NoPointerLeft, at));
+            self.refuse(Why::NoPointerLeft, at);
+            return 0;
         }
         self.pointers = register + 1;
         self.leads[usize::from(register)] = slot;
         self.state = self.state.without_pointers(bit(register));
         self.lost[usize::from(register)].lost = false;
-        Ok(register)
+        register
     }
 
     /// The lowest slot that is free.
-    pub(crate) fn free_slot(&self, at: u32) -> Result<u8, Fault>
-        ensures { IfOk result (λ slot. slot < 4) }
+    pub(crate) fn free_slot(&mut self, at: u32) -> u8
+        ensures { result < 4 }
     {
         for slot in 0..4 {
-            if self.slots[slot] == Held::Free {
-                return Ok(slot as u8);
+            if matches!(self.slots[slot], Held::Free) {
+                return slot as u8;
             }
         }
-        Err(Fault::new(Why::NoSlotLeft, at))
+        self.refuse(Why::NoSlotLeft, at);
+        0
     }
 
     /// What a slot holds.
@@ -251,15 +253,14 @@ impl Placer<'_> {
         }
     }
 
-    pub(crate) fn push(&mut self, operand: Operand) -> Result<(), Fault> {
-        match self.operands.push(operand) {
-            Ok(()) => Ok(()),
-            Err(_) => Err(Fault::new(Why::Memory, operand.at)),
+    pub(crate) fn push(&mut self, operand: Operand) {
+        if self.operands.push(operand).is_err() {
+            self.refuse(Why::Memory, operand.at);
         }
     }
 
     /// The value of a name.
-    pub(crate) fn named_value(&mut self, item: &Item) -> Result<(), Fault> {
+    pub(crate) fn named_value(&mut self, item: &Item) {
         let name = self.name(item.at);
         if let Some(symbol) = self.symbol(&name) {
             let sort = match symbol.meaning {
@@ -282,32 +283,32 @@ impl Placer<'_> {
                 let sort = match global.kind {
                     Kind::Constant => Sort::Constant,
                     Kind::Structure => Sort::Structure,
-                    Kind::Routine => return Err(Fault::new(Why::NoWordHere, item.at)),
+                    Kind::Routine => return self.refuse(Why::NoWordHere, item.at),
                 };
                 self.push(Operand {
                     structure: index,
                     ..value(sort, item.at, 0, global.value)
                 })
             }
-            None => Err(Fault::new(Why::Unknown, item.at)),
+            None => self.refuse(Why::Unknown, item.at),
         }
     }
 
     /// The word for the handle of a block that is made. It is declared here if it is not known.
-    pub(crate) fn handle_value(&mut self, item: &Item) -> Result<(), Fault> {
+    pub(crate) fn handle_value(&mut self, item: &Item) {
         let name = self.name(item.at);
         let register = match self.symbol(&name) {
             Some(symbol) => {
-                if symbol.meaning != Meaning::Word {
-                    return Err(Fault::new(Why::NotSettable, item.at));
+                if !matches!(symbol.meaning, Meaning::Word) {
+                    return self.refuse(Why::NotSettable, item.at);
                 }
                 symbol.register
             }
             None => {
-                let register = self.take_named(item.at)?;
+                let register = self.take_named(item.at);
                 self.keep_word(register);
                 self.state.words &= !bit(register);
-                self.declare_word(item.at, register)?;
+                self.declare_word(item.at, register);
                 register
             }
         };

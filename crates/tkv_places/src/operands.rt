@@ -1,25 +1,25 @@
 //! Values as operands of instructions.
 
-ghost use Rattle.std.specs.Prelude.{◌<◌, IfOk};
+ghost use Rattle.std.specs.Prelude.{◌<◌};
 
 use crate::names::value;
 use crate::placed::{NOWHERE, with_number, with_registers};
 use crate::placer::{Held, MOST_WORDS, Operand, Placer, Sort};
 use crate::state::WHY;
 use geos_opcodes::Opcode;
-use tkv_syntax::{Fault, Why};
+use tkv_syntax::Why;
 
-impl Placer<'_> {
+impl Placer {
     /// The value that so many values follow.
-    pub(crate) fn operand(&self, behind: usize, at: u32) -> Result<Operand, Fault> {
+    pub(crate) fn operand(&mut self, after: usize, at: u32) -> Operand {
         let count = self.operands.len();
-        if count.saturating_sub(self.floor) <= behind {
-            return Err(Fault::new(Why::WantedValue, at));
+        if count.saturating_sub(self.floor) > after
+            && let Some(operand) = self.operands.get(count - 1 - after)
+        {
+            return *operand;
         }
-        match self.operands.get(count - 1 - behind) {
-            Some(operand) => Ok(*operand),
-            None => Err(Fault::new(Why::WantedValue, at)),
-        }
+        self.refuse(Why::ExpectedValue, at);
+        value(Sort::Constant, at, 0, 0)
     }
 
     /// How many values the statement has.
@@ -27,11 +27,11 @@ impl Placer<'_> {
         self.operands.len().saturating_sub(self.floor)
     }
 
-    /// Takes so many values away, with the words that they alone take.
+    /// Takes so many values away, with the words that only they take.
     pub(crate) fn take_values(&mut self, count: usize) {
         for _ in 0..count {
             if let Some(operand) = self.operands.pop()
-                && operand.sort == Sort::Temporary
+                && operand.is_temporary()
                 && operand.register < self.words
             {
                 self.words = operand.register;
@@ -44,153 +44,150 @@ impl Placer<'_> {
 
     /// Whether w7 keeps neither the number of a refusal nor a value.
     pub(crate) fn is_spare(&self) -> bool {
-        let kept = self.operands.iter().any(|operand| operand.sort == Sort::Temporary
+        let kept = self.operands.iter().any(|operand| operand.is_temporary()
             && operand.register == WHY);
         !kept && !self.state.has_word(WHY)
     }
 
-    /// Loads a constant as an operand: into w7 where that has nothing to keep, otherwise into a free word.
-    fn load(&mut self, constant: u16, at: u32) -> Result<u8, Fault> {
+    /// Loads a constant as an operand: into w7 if that has nothing to keep, otherwise into a free word.
+    fn load(&mut self, constant: u16, at: u32) -> u8 {
         let spare = !self.spare_taken && self.is_spare();
-        let register = if spare { WHY } else { self.take_word(at)? };
+        let register = if spare { WHY } else { self.take_word(at) };
         let taken = self.spare_taken;
-        self.act(with_number(Opcode::Ldi, register, 0, constant), at)?;
+        self.act(with_number(Opcode::Ldi, register, 0, constant), at);
         self.spare_taken = taken || spare;
-        Ok(register)
+        register
     }
 
     /// The word that has a value. A constant is loaded.
-    pub(crate) fn word_of(&mut self, operand: Operand) -> Result<u8, Fault> {
+    pub(crate) fn word_of(&mut self, operand: Operand) -> u8 {
         match operand.sort {
             Sort::Constant => self.load(operand.value, operand.at),
-            Sort::Temporary | Sort::Handle => Ok(operand.register),
+            Sort::Temporary | Sort::Handle => operand.register,
             Sort::Word => {
                 if !self.state.has_word(operand.register) {
-                    return Err(Fault::new(Why::Unset, operand.at));
+                    self.refuse(Why::Unset, operand.at);
                 }
-                Ok(operand.register)
+                operand.register
             }
             Sort::Why => {
                 if !self.state.has_word(WHY) {
-                    return Err(Fault::new(Why::WhyUnknown, operand.at));
+                    self.refuse(Why::WhyUnknown, operand.at);
                 }
-                Ok(WHY)
+                WHY
             }
             Sort::Block | Sort::Pointer | Sort::Structure => {
-                Err(Fault::new(Why::NoWordHere, operand.at))
+                self.refuse(Why::NoWordHere, operand.at);
+                0
             }
         }
     }
 
     /// The slot of a block.
-    pub(crate) fn slot_of(&self, operand: Operand) -> Result<u8, Fault>
-        ensures { IfOk result (λ slot. slot < 4) }
+    pub(crate) fn slot_of(&mut self, operand: Operand) -> u8
+        ensures { result < 4 }
     {
-        if operand.sort != Sort::Block || operand.register >= 4 {
-            return Err(Fault::new(Why::NoBlock, operand.at));
+        if !matches!(operand.sort, Sort::Block) || operand.register >= 4 {
+            self.refuse(Why::NoBlock, operand.at);
+            return 0;
         }
-        Ok(operand.register)
+        operand.register
     }
 
     /// A pointer that is not stale.
-    pub(crate) fn pointer_of(&self, operand: Operand) -> Result<u8, Fault>
-        ensures { IfOk result (λ pointer. pointer < 4) }
+    pub(crate) fn pointer_of(&mut self, operand: Operand) -> u8
+        ensures { result < 4 }
     {
-        if operand.sort != Sort::Pointer || operand.register >= 4 {
-            return Err(Fault::new(Why::NoPointer, operand.at));
+        if !operand.is_pointer() || operand.register >= 4 {
+            self.refuse(Why::NoPointer, operand.at);
+            return 0;
         }
-        if self.state.has_pointer(operand.register) {
-            return Ok(operand.register);
+        if !self.state.has_pointer(operand.register) {
+            let loss = self.lost[usize::from(operand.register)];
+            if loss.lost {
+                self.refuse_for(Why::Stale, operand.at, loss.by);
+            } else {
+                self.refuse(Why::NotFetched, operand.at);
+            }
         }
-        let loss = self.lost[usize::from(operand.register)];
-        if loss.lost {
-            return Err(Fault {
-                other: loss.by,
-                ..Fault::new(Why::Stale, operand.at)
-            });
-        }
-        Err(Fault::new(Why::NotFetched, operand.at))
+        operand.register
     }
 
     /// The number of a constant or of a structure's bytes.
-    pub(crate) fn number_of(&self, operand: Operand) -> Result<u16, Fault> {
-        match operand.sort {
-            Sort::Constant | Sort::Structure => Ok(operand.value),
-            _ => Err(Fault::new(Why::NoConstant, operand.at)),
+    pub(crate) fn number_of(&mut self, operand: Operand) -> u16 {
+        if !matches!(operand.sort, Sort::Constant | Sort::Structure) {
+            self.refuse(Why::NoConstant, operand.at);
         }
+        operand.value
     }
 
     /// The word for the result of an operation on so many values: the lowest that they take, or the lowest free one.
-    pub(crate) fn lowest(&self, count: usize, at: u32) -> Result<u8, Fault> {
+    pub(crate) fn lowest(&mut self, count: usize, at: u32) -> u8 {
         let mut register = self.words;
         for (k, operand) in self.operands.iter().rev().enumerate() {
             if k >= count {
                 break;
             }
-            if operand.sort == Sort::Temporary && operand.register < register {
+            if operand.is_temporary() && operand.register < register {
                 register = operand.register;
             }
         }
         if register < MOST_WORDS {
-            return Ok(register);
+            return register;
         }
-        if self.is_spare() {
-            return Ok(WHY);
+        if !self.is_spare() {
+            self.refuse(Why::NoWordLeft, at);
         }
-        Err(Fault::new(Why::NoWordLeft, at))
+        WHY
     }
 
     /// A word for the result of an operation: the lowest that is free, or at last w7, which the next instruction is to take.
-    pub(crate) fn push_result(&mut self, at: u32) -> Result<u8, Fault> {
+    pub(crate) fn push_result(&mut self, at: u32) -> u8 {
         let register = if self.words >= MOST_WORDS && self.is_spare() {
             WHY
         } else {
-            self.take_word(at)?
+            self.take_word(at)
         };
-        self.push(value(Sort::Temporary, at, register, 0))?;
-        Ok(register)
+        self.push(value(Sort::Temporary, at, register, 0));
+        register
     }
 
     /// Puts a value into a word.
-    pub(crate) fn move_to(&mut self, operand: Operand, to: u8, at: u32) -> Result<(), Fault> {
-        if operand.sort == Sort::Constant {
+    pub(crate) fn move_to(&mut self, operand: Operand, to: u8, at: u32) {
+        if operand.is_constant() {
             return self.act(with_number(Opcode::Ldi, to, 0, operand.value), at);
         }
-        let from = self.word_of(operand)?;
-        if from == to {
-            return Ok(());
+        let from = self.word_of(operand);
+        if from == to || (operand.is_temporary() && self.retarget(from, to)) {
+            return;
         }
-        if operand.sort == Sort::Temporary && self.retarget(from, to) {
-            return Ok(());
-        }
-        self.act(with_registers(Opcode::Mov, to, from, 0), at)
+        self.act(with_registers(Opcode::Mov, to, from, 0), at);
     }
 
     /// Marks the block of a slot, if it has a mark and it is not known to be set.
-    pub(crate) fn mark(&mut self, slot: u8, at: u32) -> Result<(), Fault> {
+    pub(crate) fn mark(&mut self, slot: u8, at: u32) {
         let opcode = match self.held(slot) {
-            Held::Free | Held::Mem => return Ok(()),
+            Held::Free | Held::Mem => return,
             Held::Vm | Held::Lent => Opcode::Vdirty,
             Held::Group => Opcode::Idirty,
         };
         if self.state.has_mark(slot) {
-            return Ok(());
+            return;
         }
         let taken = self.spare_taken;
-        self.act(with_registers(opcode, slot, 0, 0), at)?;
+        self.act(with_registers(opcode, slot, 0, 0), at);
         self.spare_taken = taken;
         self.state = self.state.with_mark(slot);
-        Ok(())
     }
 
     /// Where a refusal goes: of what `?` follows out, otherwise to the handler of the statement.
-    pub(crate) fn refusal_way(&self, asks: bool, at: u32) -> Result<u16, Fault> {
+    pub(crate) fn refusal_way(&mut self, asks: bool, at: u32) -> u16 {
         if asks {
             return self.way_out(at);
         }
         if self.handler == NOWHERE {
-            return Err(Fault::new(Why::Unsaid, at));
+            self.refuse(Why::Unsaid, at);
         }
-        Ok(self.handler)
+        self.handler
     }
 }

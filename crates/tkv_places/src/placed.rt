@@ -16,7 +16,7 @@ pub enum PlacedKind {
     Loop,
     /// Turns begin: control comes to their end first, which counts.
     Count,
-    /// Statements begin behind which the instruction stands on each way out.
+    /// Statements begin, after which the instruction stands on every way out.
     Closing,
     /// The end of what began last and has not ended.
     End,

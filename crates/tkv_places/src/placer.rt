@@ -4,7 +4,7 @@ use crate::declarations::Declared;
 use crate::placed::{NOWHERE, Placed};
 use crate::state::State;
 use std::alloc::Global;
-use tkv_syntax::{Fault, Item, Name, Why, name_at};
+use tkv_syntax::{Fault, Name, Why};
 
 /// The words that names and values take: w0 to w6.
 pub(crate) const MOST_WORDS: u8 = 7;
@@ -78,6 +78,29 @@ pub(crate) struct Operand {
     pub structure: u16,
 }
 
+impl Operand {
+    pub(crate) fn is_constant(&self) -> bool {
+        matches!(self.sort, Sort::Constant)
+    }
+
+    pub(crate) fn is_temporary(&self) -> bool {
+        matches!(self.sort, Sort::Temporary)
+    }
+
+    pub(crate) fn is_pointer(&self) -> bool {
+        matches!(self.sort, Sort::Pointer)
+    }
+
+    /// The structure that it is, or `NOWHERE`.
+    pub(crate) fn structure_of(&self) -> u16 {
+        if matches!(self.sort, Sort::Structure) {
+            self.structure
+        } else {
+            NOWHERE
+        }
+    }
+}
+
 /// A block, loop or closing that has not ended.
 #[derive(Clone, Copy)]
 pub(crate) struct Bracket {
@@ -114,21 +137,36 @@ pub(crate) struct Frame {
     pub named: u8,
     pub pointers: u8,
     pub symbols: usize,
-    /// The counter of a loop, the slot of a lock, the word of a result.
+    /// The slot of a lock, or the counter of a loop.
     pub register: u8,
-    /// The word that a loop counts by, or 255, and the step.
+}
+
+/// The turns of a loop that have not ended.
+#[derive(Clone, Copy)]
+pub(crate) struct Turns {
+    /// The word that counts, or 255, and by how much.
     pub counted: u8,
     pub step: u16,
     /// What is known where turns begin, and whether control comes to their end first.
     pub head: State,
     pub counts_first: bool,
-    /// Of a routine: whether it may be refused, and whether it has a result.
-    pub refusable: bool,
-    pub gives: bool,
-    /// Of an inlined routine: where its refusals go, the item behind the call, and what was so at the call.
-    pub fails: u16,
-    pub back: usize,
+}
+
+/// A routine that has not ended. If it is inlined, what is to be restored after the call.
+#[derive(Clone, Copy)]
+pub(crate) struct Running {
+    /// The item that declares it.
     pub routine: usize,
+    /// The block to whose end `return` leaves.
+    pub level: u16,
+    /// Whether it may be refused, and where its refusals go then.
+    pub refusable: bool,
+    pub fails: u16,
+    /// Whether it has a result, and the word of that.
+    pub gives: bool,
+    pub register: u8,
+    /// The item after the call.
+    pub back: usize,
     pub base: usize,
     pub floor: usize,
     pub callers: u8,
@@ -143,16 +181,16 @@ pub(crate) struct Loss {
     pub lost: bool,
 }
 
-/// A routine that is being placed.
+/// A routine that is being placed. After the first fault what is placed does not matter, and placing ends with the item.
 #[derive(Drop)]
-pub(crate) struct Placer<'a> {
+pub(crate) struct Placer {
     pub alloc: Global,
-    pub text: &'a [u8],
-    pub items: &'a [Item],
-    pub declared: &'a Declared,
+    pub declared: Declared,
     pub placed: Vec<Placed>,
     pub brackets: Vec<Bracket>,
     pub frames: Vec<Frame>,
+    pub turns: Vec<Turns>,
+    pub running: Vec<Running>,
     pub symbols: Vec<Symbol>,
     pub operands: Vec<Operand>,
     pub state: State,
@@ -179,23 +217,20 @@ pub(crate) struct Placer<'a> {
     pub spare_taken: bool,
     /// How many items may be gone over still.
     pub effort: u32,
+    /// The first fault, if there is one.
+    pub fault: Option<Fault>,
 }
 
-impl<'a> Placer<'a> {
-    pub(crate) fn new(
-        alloc: Global,
-        text: &'a [u8],
-        items: &'a [Item],
-        declared: &'a Declared,
-    ) -> Placer<'a> {
+impl Placer {
+    pub(crate) fn new(alloc: Global, declared: Declared) -> Placer {
         Placer {
             alloc,
-            text,
-            items,
             declared,
             placed: Vec::new(alloc),
             brackets: Vec::new(alloc),
             frames: Vec::new(alloc),
+            turns: Vec::new(alloc),
+            running: Vec::new(alloc),
             symbols: Vec::new(alloc),
             operands: Vec::new(alloc),
             state: State {
@@ -221,17 +256,57 @@ impl<'a> Placer<'a> {
             floor: 0,
             spare_taken: false,
             effort: MOST_EFFORT,
+            fault: None,
         }
     }
 }
 
-impl Placer<'_> {
-    /// The name that stands at a place.
-    pub(crate) fn name(&self, at: u32) -> Name {
-        name_at(self.text, at)
+impl Placer {
+    /// Keeps a fault, if it is the first one.
+    fn refuse_with(&mut self, fault: Fault) {
+        if self.fault.is_none() {
+            self.fault = Some(fault);
+        }
     }
 
-    /// A construct begins, at whose end all names are forgotten that are known from now on.
+    /// Refuses the source for what is at a place.
+    pub(crate) fn refuse(&mut self, why: Why, at: u32) {
+        self.refuse_with(Fault::new(why, at));
+    }
+
+    /// Refuses the source for what is at a place, with another place to name.
+    pub(crate) fn refuse_for(&mut self, why: Why, at: u32, other: u32) {
+        self.refuse_with(Fault {
+            other,
+            ..Fault::new(why, at)
+        });
+    }
+
+    /// Refuses the source for what is at a place, with a number to name.
+    pub(crate) fn refuse_by(&mut self, why: Why, at: u32, number: u16) {
+        self.refuse_with(Fault {
+            number,
+            ..Fault::new(why, at)
+        });
+    }
+
+    /// The name that stands at a place.
+    pub(crate) fn name(&self, at: u32) -> Name {
+        self.declared.name(at)
+    }
+
+    /// What a constant of an item says.
+    pub(crate) fn constant(&mut self, code: u32) -> u16 {
+        match self.declared.constant(code) {
+            Ok(value) => value,
+            Err(fault) => {
+                self.refuse_with(fault);
+                0
+            }
+        }
+    }
+
+    /// A construct, at whose end all names are forgotten that are known from now on.
     pub(crate) fn frame(&self, construct: Construct, at: u32) -> Frame {
         Frame {
             construct,
@@ -241,27 +316,12 @@ impl Placer<'_> {
             pointers: self.named_pointers,
             symbols: self.symbols.len(),
             register: 0,
-            counted: 255,
-            step: 1,
-            head: self.state,
-            counts_first: false,
-            refusable: false,
-            gives: false,
-            fails: NOWHERE,
-            back: 0,
-            routine: 0,
-            base: self.base,
-            floor: self.floor,
-            callers: self.callers,
-            handler: self.handler,
-            asks: self.asks,
         }
     }
 
-    pub(crate) fn begin(&mut self, frame: Frame) -> Result<(), Fault> {
-        match self.frames.push(frame) {
-            Ok(()) => Ok(()),
-            Err(_) => Err(Fault::new(Why::Memory, frame.at)),
+    pub(crate) fn begin(&mut self, frame: Frame) {
+        if self.frames.push(frame).is_err() {
+            self.refuse(Why::Memory, frame.at);
         }
     }
 
@@ -275,19 +335,21 @@ impl Placer<'_> {
     }
 
     /// The innermost construct, without its end.
-    pub(crate) fn innermost(&self, at: u32) -> Result<Frame, Fault> {
+    pub(crate) fn innermost(&mut self, at: u32) -> Frame {
         match self.frames.last() {
-            Some(frame) => Ok(*frame),
-            None => Err(Fault::new(Why::Unreached, at)),
+            Some(frame) => *frame,
+            None => {
+                self.refuse(Why::Unreached, at);
+                self.frame(Construct::Scope, at)
+            }
         }
     }
 
     /// The innermost construct ends.
-    pub(crate) fn finish(&mut self, at: u32) -> Result<Frame, Fault> {
-        match self.frames.pop() {
-            Some(frame) => Ok(frame),
-            None => Err(Fault::new(Why::Unreached, at)),
-        }
+    pub(crate) fn finish(&mut self, at: u32) -> Frame {
+        let frame = self.innermost(at);
+        self.frames.pop();
+        frame
     }
 
     /// The innermost construct becomes another one.

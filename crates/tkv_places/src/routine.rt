@@ -1,8 +1,9 @@
 //! A public routine, placed.
 
 use crate::declarations::Declared;
+use crate::names::value;
 use crate::placed::{NOWHERE, Placed, bare};
-use crate::placer::{Construct, Frame, Held, Meaning, Placer};
+use crate::placer::{Construct, Held, Meaning, Placer, Running, Sort};
 use geos_image::{Row, SlotState};
 use geos_opcodes::Opcode;
 use std::alloc::Global;
@@ -17,82 +18,95 @@ pub struct PlacedRoutine {
     /// What holds where it begins.
     pub entry: Row,
     pub placed: Vec<Placed>,
+    /// The program, for the next routine.
+    pub declared: Declared,
 }
 
-impl Placer<'_> {
+impl Placer {
     /// A parameter of a public routine.
-    fn public_parameter(&mut self, item: &Item, entry: &mut Row) -> Result<(), Fault> {
+    fn public_parameter(&mut self, item: &Item, entry: &mut Row) {
         match item.kind {
             ItemKind::WordParam => {
-                let register = self.take_word(item.at)?;
+                let register = self.take_word(item.at);
                 self.keep_word(register);
                 self.state = self.state.with_word(register);
                 if item.b != NONE {
-                    entry.bounds[usize::from(register)] = self
-                        .declared
-                        .constant(self.text, item.b)?;
+                    entry.bounds[usize::from(register)] = self.constant(item.b);
                 }
-                self.declare_word(item.at, register)
+                self.declare_word(item.at, register);
             }
-            ItemKind::BlockParam => {
-                if item.a != 1 {
-                    return Err(Fault::new(Why::Public, item.at));
-                }
-                let slot = self.free_slot(item.at)?;
+            ItemKind::BlockParam if item.a == 1 => {
+                let slot = self.free_slot(item.at);
                 self.hold(slot, Held::Lent);
                 entry.slots[usize::from(slot)] = SlotState::Vm {
                     marked: false,
                     borrowed: true,
                 };
-                self.declare_as(Meaning::Block, item.at, slot)
+                self.declare_as(Meaning::Block, item.at, slot);
             }
-            _ => Err(Fault::new(Why::Public, item.at)),
+            _ => self.refuse(Why::Public, item.at),
         }
     }
 
     /// The routine of an item begins.
-    fn begin_routine(&mut self, index: usize, head: &Item) -> Result<Row, Fault> {
-        if head.a & 12 != 0 {
-            return Err(Fault::new(Why::Public, head.at));
-        }
+    fn begin_routine(&mut self, index: usize, head: &Item) -> Row {
         let mut entry = Row::open();
+        if head.a & 12 != 0 {
+            self.refuse(Why::Public, head.at);
+            return entry;
+        }
         let count = head.b.min(8) as usize;
         self.next = index.saturating_add(1).saturating_add(count);
         for k in 0..count {
-            let item = self.parameter(index, k, head.at)?;
-            self.public_parameter(&item, &mut entry)?;
+            if let Some(item) = self.parameter(index, k, head.at) {
+                self.public_parameter(&item, &mut entry);
+            }
         }
-        let frame = Frame {
-            routine: index,
-            level: self.block(head.at)?,
-            ..self.frame(Construct::Routine, head.at)
-        };
-        self.begin(frame)?;
-        Ok(entry)
+        let level = self.block(head.at);
+        let frame = self.frame(Construct::Routine, head.at);
+        self.begin(frame);
+        self.run(
+            Running {
+                routine: index,
+                level,
+                refusable: false,
+                fails: NOWHERE,
+                gives: false,
+                register: 0,
+                back: 0,
+                base: 0,
+                floor: 0,
+                callers: 0,
+                handler: NOWHERE,
+                asks: false,
+            },
+            head.at,
+        );
+        entry
     }
 
     /// A routine ends. Whether it is the outermost.
-    fn end_routine(&mut self, at: u32) -> Result<bool, Fault> {
-        if self.innermost(at)?.construct == Construct::Tried {
-            self.attempt_end(at)?;
+    fn end_routine(&mut self, at: u32) -> bool {
+        let inner = self.innermost(at);
+        if matches!(inner.construct, Construct::Tried) {
+            self.attempt_end(at);
         }
-        if self.innermost(at)?.construct == Construct::Inlined {
-            self.return_inlined(at)?;
-            return Ok(false);
+        let routine = self.innermost(at);
+        if matches!(routine.construct, Construct::Inlined) {
+            self.return_inlined(at);
+            return false;
         }
-        self.finish(at)?;
-        self.end(at)?;
+        self.finish(at);
+        self.end(at);
         if !self.state.alive {
-            return Err(Fault::new(Why::NoEnd, at));
+            self.refuse(Why::NoEnd, at);
         }
-        self.act(bare(Opcode::Ret), at)?;
-        Ok(true)
+        self.act(bare(Opcode::Ret), at);
+        true
     }
 
     /// An item of a value.
-    fn value_item(&mut self, item: &Item) -> Result<(), Fault> {
-        use crate::names::value;
-        use crate::placer::Sort;
+    fn value_item(&mut self, item: &Item) {
         match item.kind {
             ItemKind::Number => {
                 self.push(value(Sort::Constant, item.at, 0, item.a.min(65_535) as u16))
@@ -107,7 +121,7 @@ impl Placer<'_> {
     }
 
     /// An item of a statement that is no bracket.
-    fn simple_item(&mut self, item: &Item) -> Result<(), Fault> {
+    fn simple_item(&mut self, item: &Item) {
         match item.kind {
             ItemKind::Begin => self.begin_statement(item),
             ItemKind::Let => self.bind(item),
@@ -124,26 +138,24 @@ impl Placer<'_> {
             ItemKind::End => {
                 self.clear();
                 self.handler = NOWHERE;
-                Ok(())
             }
             _ => self.value_item(item),
         }
     }
 
     /// An item of a condition, a loop or a lock.
-    fn bracket_item(&mut self, item: &Item) -> Result<(), Fault> {
+    fn bracket_item(&mut self, item: &Item) {
         let at = item.at;
         match item.kind {
             ItemKind::If => self.conditional(item),
             ItemKind::Alt => {
-                self.block(at)?;
-                Ok(())
+                self.block(at);
             }
             ItemKind::AltEnd => self.alternative_end(at),
             ItemKind::CondEnd => self.condition_end(at),
             ItemKind::Else => self.otherwise(at),
             ItemKind::IfEnd => self.conditional_end(at),
-            ItemKind::Turns => self.turns(item),
+            ItemKind::Turns => self.bounded_turns(item),
             ItemKind::For => self.count(item),
             ItemKind::TurnEnd => self.turn_end(at),
             ItemKind::LoopDone => self.loop_done(at),
@@ -156,58 +168,72 @@ impl Placer<'_> {
     }
 
     /// An item. Whether the outermost routine ends with it.
-    fn item(&mut self, item: &Item) -> Result<bool, Fault> {
+    fn item(&mut self, item: &Item) -> bool {
         let at = item.at;
         match item.kind {
             ItemKind::BodyEnd => return self.end_routine(at),
             ItemKind::Body => {
                 if item.a != 0 {
-                    self.attempt(Construct::Try, at)?;
+                    self.attempt(Construct::Try, at);
                 }
             }
-            ItemKind::BodyElse | ItemKind::TryElse => self.attempted(at)?,
-            ItemKind::Try => self.attempt(Construct::Try, at)?,
-            ItemKind::TryEnd => self.attempt_end(at)?,
-            ItemKind::Handler => self.handle(at)?,
-            ItemKind::HandlerEnd => self.attempt_end(at)?,
+            ItemKind::BodyElse | ItemKind::TryElse => self.attempted(at),
+            ItemKind::Try => {
+                self.attempt(Construct::Try, at);
+            }
+            ItemKind::TryEnd | ItemKind::HandlerEnd => self.attempt_end(at),
+            ItemKind::Handler => self.handle(at),
             ItemKind::Scope => {
                 let frame = self.frame(Construct::Scope, at);
-                self.begin(frame)?;
+                self.begin(frame);
             }
             ItemKind::ScopeEnd => {
-                let frame = self.finish(at)?;
+                let frame = self.finish(at);
                 self.restore(&frame);
             }
-            _ => self.bracket_item(item)?,
+            _ => self.bracket_item(item),
         }
-        Ok(false)
+        false
+    }
+
+    /// The next item of the routine that begins at a place. Whether the outermost routine ends with it.
+    fn step(&mut self, at: u32) -> bool {
+        let Some(item) = self.declared.item(self.next) else {
+            self.refuse(Why::NoEnd, at);
+            return true;
+        };
+        self.next = self.next.saturating_add(1);
+        self.item(&item)
     }
 }
 
-/// A public routine, by the item that declares it.
+/// Places a public routine of a program, by the item that declares it.
 pub fn place_routine(
     alloc: Global,
-    text: &[u8],
-    items: &[Item],
-    declared: &Declared,
+    declared: Declared,
     index: usize,
 ) -> Result<PlacedRoutine, Fault> {
-    let mut placer = Placer::new(alloc, text, items, declared);
-    let Some(head) = items.get(index).copied() else {
+    let Some(head) = declared.item(index) else {
         return Err(Fault::new(Why::NoRoutine, 0));
     };
-    let entry = placer.begin_routine(index, &head)?;
+    let mut placer = Placer::new(alloc, declared);
+    let entry = placer.begin_routine(index, &head);
+    let mut ended = false;
     for _ in 0..MOST_STEPS {
-        let Some(item) = items.get(placer.next).copied() else {
-            return Err(Fault::new(Why::NoEnd, head.at));
-        };
-        placer.next = placer.next.saturating_add(1);
-        if placer.item(&item)? {
-            return Ok(PlacedRoutine {
-                entry,
-                placed: placer.placed,
-            });
+        if ended || placer.fault.is_some() {
+            break;
         }
+        ended = placer.step(head.at);
     }
-    Err(Fault::new(Why::TooMany, head.at))
+    if !ended {
+        placer.refuse(Why::TooMany, head.at);
+    }
+    match placer.fault {
+        Some(fault) => Err(fault),
+        None => Ok(PlacedRoutine {
+            entry,
+            placed: placer.placed,
+            declared: placer.declared,
+        }),
+    }
 }

@@ -1,29 +1,29 @@
 //! Statements that name, set and put out values.
 
 use crate::placed::{PlacedKind, with_registers};
-use crate::placer::{MOST_WORDS, Meaning, Operand, Placer, Sort, Symbol};
+use crate::placer::{MOST_WORDS, Meaning, Operand, Placer, Symbol};
 use crate::state::bit;
 use geos_opcodes::Opcode;
-use tkv_syntax::{Fault, Item, Why};
+use tkv_syntax::{Item, Why};
 
-impl Placer<'_> {
+impl Placer {
     /// Names a word that is not set.
-    fn declare_unset(&mut self, at: u32) -> Result<(), Fault> {
-        let register = self.take_named(at)?;
+    fn declare_unset(&mut self, at: u32) {
+        let register = self.take_named(at);
         self.keep_word(register);
         self.state.words &= !bit(register);
-        self.declare_word(at, register)
+        self.declare_word(at, register);
     }
 
-    /// Names a pointer, which the value alone has or another name too.
-    fn declare_pointer(&mut self, operand: Operand, at: u32) -> Result<(), Fault> {
-        let from = self.pointer_of(operand)?;
+    /// Names a pointer, which only the value has, or another name too.
+    fn declare_pointer(&mut self, operand: Operand, at: u32) {
+        let from = self.pointer_of(operand);
         let register = if from >= self.named_pointers {
             from
         } else {
             let slot = self.leads[usize::from(from)];
-            let to = self.take_pointer(slot, at)?;
-            self.act(with_registers(Opcode::Movp, to, from, 0), at)?;
+            let to = self.take_pointer(slot, at);
+            self.act(with_registers(Opcode::Movp, to, from, 0), at);
             self.state = self.state.with_pointer(to);
             to
         };
@@ -37,7 +37,7 @@ impl Placer<'_> {
             value: operand.value,
             structure: operand.structure,
             last: usize::MAX,
-        })
+        });
     }
 
     /// The word for a name whose value is in a word of its own: a lower one, if what computes the value can leave it there.
@@ -55,56 +55,52 @@ impl Placer<'_> {
     }
 
     /// Names a value: a word is moved to one that only the name has.
-    fn declare_value(&mut self, operand: Operand, at: u32) -> Result<(), Fault> {
-        if operand.sort == Sort::Pointer {
+    fn declare_value(&mut self, operand: Operand, at: u32) {
+        if operand.is_pointer() {
             return self.declare_pointer(operand, at);
         }
-        let register = if operand.sort == Sort::Temporary && operand.register < MOST_WORDS {
+        let register = if operand.is_temporary() && operand.register < MOST_WORDS {
             self.settled_word(operand.register)
         } else {
-            let register = self.take_named(at)?;
-            self.move_to(operand, register, at)?;
+            let register = self.take_named(at);
+            self.move_to(operand, register, at);
             register
         };
         self.keep_word(register);
         self.state = self.state.with_word(register);
-        self.declare_word(at, register)
+        self.declare_word(at, register);
     }
 
     /// `let`: names value `a` of `b`.
-    pub(crate) fn bind(&mut self, item: &Item) -> Result<(), Fault> {
+    pub(crate) fn bind(&mut self, item: &Item) {
         if item.b == 0 {
             return self.declare_unset(item.at);
         }
         let (index, count) = (item.a as usize, item.b as usize);
         if self.operand_count() != count || index >= count {
-            return Err(Fault::new(Why::Values, item.at));
+            return self.refuse(Why::Values, item.at);
         }
-        let operand = self.operand(count - 1 - index, item.at)?;
-        self.declare_value(operand, item.at)
+        let operand = self.operand(count - 1 - index, item.at);
+        self.declare_value(operand, item.at);
     }
 
     /// Sets a pointer to what another one is, which leads into the same block and has the same bytes.
-    fn assign_pointer(&mut self, symbol: Symbol, operand: Operand, at: u32) -> Result<(), Fault> {
-        let from = self.pointer_of(operand)?;
+    fn assign_pointer(&mut self, symbol: &Symbol, operand: Operand, at: u32) {
+        let from = self.pointer_of(operand);
         if symbol.register >= 4 {
-            return Err(Fault::new(Why::NoPointer, at));
+            return self.refuse(Why::NoPointer, at);
         }
         let to = symbol.register;
         let same = self.leads[usize::from(from)] == self.leads[usize::from(to)]
             && operand.value >= symbol.value;
         if !same {
-            return Err(Fault {
-                other: symbol.at,
-                ..Fault::new(Why::Kinds, at)
-            });
+            return self.refuse_for(Why::Kinds, at, symbol.at);
         }
         if from < self.named_pointers || !self.refetch(from, to) {
-            self.act(with_registers(Opcode::Movp, to, from, 0), at)?;
+            self.act(with_registers(Opcode::Movp, to, from, 0), at);
         }
         self.state = self.state.with_pointer(to);
         self.lost[usize::from(to)].lost = false;
-        Ok(())
     }
 
     /// The last placed item sets another pointer, if it fetches this one.
@@ -113,7 +109,7 @@ impl Placer<'_> {
             return false;
         };
         let fetches = matches!(placed.instr.opcode, Opcode::Deref | Opcode::Caelt);
-        if placed.kind != PlacedKind::Do || !fetches || placed.instr.b != from {
+        if !matches!(placed.kind, PlacedKind::Do) || !fetches || placed.instr.b != from {
             return false;
         }
         placed.instr.b = to;
@@ -121,55 +117,52 @@ impl Placer<'_> {
     }
 
     /// Sets the name to the value.
-    pub(crate) fn assign(&mut self, item: &Item) -> Result<(), Fault> {
+    pub(crate) fn assign(&mut self, item: &Item) {
         let at = item.at;
-        let operand = self.operand(0, at)?;
+        let operand = self.operand(0, at);
         if self.operand_count() != 1 {
-            return Err(Fault::new(Why::Values, at));
+            return self.refuse(Why::Values, at);
         }
         match self.symbol(&self.name(at)) {
             Some(symbol) => match symbol.meaning {
                 Meaning::Word => {
-                    self.move_to(operand, symbol.register, at)?;
+                    self.move_to(operand, symbol.register, at);
                     self.state = self.state.with_word(symbol.register);
-                    Ok(())
                 }
-                Meaning::Pointer => self.assign_pointer(symbol, operand, at),
-                _ => Err(Fault::new(Why::NotSettable, at)),
+                Meaning::Pointer => self.assign_pointer(&symbol, operand, at),
+                _ => self.refuse(Why::NotSettable, at),
             },
-            None => Err(Fault::new(Why::Unknown, at)),
+            None => self.refuse(Why::Unknown, at),
         }
     }
 
     /// Puts out the value.
-    pub(crate) fn put_out(&mut self, item: &Item) -> Result<(), Fault> {
+    pub(crate) fn put_out(&mut self, item: &Item) {
         let at = item.at;
-        let operand = self.operand(0, at)?;
-        let to = self.refusal_way(self.asks, at)?;
-        let register = self.word_of(operand)?;
-        self.act_to(with_registers(Opcode::Out, register, 0, 0), to, at)?;
+        let operand = self.operand(0, at);
+        let to = self.refusal_way(self.asks, at);
+        let register = self.word_of(operand);
+        self.act_to(with_registers(Opcode::Out, register, 0, 0), to, at);
         self.clear();
-        Ok(())
     }
 
     /// Nothing is done with what a call gives: so it gives nothing.
-    pub(crate) fn done(&self, at: u32) -> Result<(), Fault> {
+    pub(crate) fn done(&mut self, at: u32) {
         if self.operand_count() != 0 {
-            return Err(Fault::new(Why::Dropped, at));
+            self.refuse(Why::Dropped, at);
         }
-        Ok(())
     }
 
     /// Marks the block.
-    pub(crate) fn make_dirty(&mut self, item: &Item) -> Result<(), Fault> {
+    pub(crate) fn make_dirty(&mut self, item: &Item) {
         match self.symbol(&self.name(item.at)) {
             Some(symbol) => {
-                if symbol.meaning != Meaning::Block {
-                    return Err(Fault::new(Why::NoBlock, item.at));
+                if !matches!(symbol.meaning, Meaning::Block) {
+                    return self.refuse(Why::NoBlock, item.at);
                 }
-                self.mark(symbol.register, item.at)
+                self.mark(symbol.register, item.at);
             }
-            None => Err(Fault::new(Why::Unknown, item.at)),
+            None => self.refuse(Why::Unknown, item.at),
         }
     }
 }
