@@ -10,8 +10,8 @@ use geos_image::{Image, Routine, Row};
 use geos_infer::{FindError, find_image};
 use geos_verify::{Checked, Reject, check};
 use std::alloc::Global;
-use tkv_places::{Declared, declare, place_routine};
-use tkv_syntax::{Fault, Item, ItemKind, Why, name_at, parse_source};
+use tkv_places::{Declared, PlacedRoutine, declare, place_routine};
+use tkv_syntax::{Fault, ItemKind, Why, name_at, parse_source};
 
 /// What a source is compiled to.
 #[derive(Drop)]
@@ -61,12 +61,9 @@ impl Program {
         &mut self,
         alloc: Global,
         text: &[u8],
-        items: &[Item],
-        declared: &Declared,
-        index: usize,
+        routine: &PlacedRoutine,
+        at: u32,
     ) -> Result<(), Fault> {
-        let at = items.get(index).map_or(0, |item| item.at);
-        let routine = place_routine(alloc, text, items, declared, index)?;
         let code = tidied(alloc, code_of(alloc, &routine.placed)?)?;
         let count = self.append(&code, at)?;
         if self.routines.len() >= 32 {
@@ -85,18 +82,33 @@ impl Program {
     }
 }
 
+/// Where a public routine is declared, if the item declares one.
+fn public_routine(declared: &Declared, index: usize) -> Option<u32> {
+    match declared.items().get(index) {
+        Some(item) => {
+            if matches!(item.kind, ItemKind::Fn) && item.a % 2 == 1 {
+                Some(item.at)
+            } else {
+                None
+            }
+        }
+        None => None,
+    }
+}
+
 /// The routines of a source, coded.
 fn program_of(alloc: Global, text: &[u8]) -> Result<Program, Fault> {
-    let items = parse_source(alloc, text)?;
-    let declared = declare(alloc, text, &items)?;
+    let mut declared = declare(alloc, parse_source(alloc, text)?)?;
     let mut program = Program {
         routines: Vec::new(alloc),
         heads: Vec::new(alloc),
         code: Vec::new(alloc),
     };
-    for (index, item) in items.iter().enumerate() {
-        if item.kind == ItemKind::Fn && item.a % 2 == 1 {
-            program.add(alloc, text, &items, &declared, index)?;
+    for index in 0..declared.items().len() {
+        if let Some(at) = public_routine(&declared, index) {
+            let routine = place_routine(alloc, declared, index)?;
+            program.add(alloc, text, &routine, at)?;
+            declared = routine.declared;
         }
     }
     if program.routines.is_empty() {
@@ -106,16 +118,23 @@ fn program_of(alloc: Global, text: &[u8]) -> Result<Program, Fault> {
 }
 
 /// The image of a program, with rows, numbers of steps and budgets.
-fn image_of(alloc: Global, program: &Program) -> Result<Image, Fault> {
-    let blank = match skeleton(alloc, &program.routines, &program.code)? {
+fn image_of(
+    alloc: Global,
+    routines: Vec<Routine>,
+    heads: &[u32],
+    code: &[Coded],
+) -> Result<Image, Fault> {
+    let blank = match skeleton(alloc, routines, code)? {
         Some(image) => image,
         None => return Err(Fault::new(Why::TooMany, 0)),
     };
     let whole = match find_image(alloc, &blank) {
         Ok(whole) => whole,
         Err(FindError::Stopped(finding)) => {
-            let head = program.heads.get(usize::from(finding.routine));
-            let at = head.copied().unwrap_or(0);
+            let at = heads
+                .get(usize::from(finding.routine))
+                .copied()
+                .unwrap_or(0);
             // By a call, so that the check does not go over each table here.
             drop(finding);
             return Err(Fault::new(Why::NoSteps, at));
@@ -129,11 +148,11 @@ fn image_of(alloc: Global, program: &Program) -> Result<Image, Fault> {
 }
 
 /// The fault of an instruction that the verifier refuses.
-fn refused(program: &Program, reject: Reject) -> Fault {
-    let at = program
-        .code
-        .get(usize::from(reject.pc))
-        .map_or(0, |coded| coded.at);
+fn refused(code: &[Coded], reject: Reject) -> Fault {
+    let at = match code.get(usize::from(reject.pc)) {
+        Some(coded) => coded.at,
+        None => 0,
+    };
     Fault {
         number: reject.rule as u8 as u16,
         ..Fault::new(Why::Refused, at)
@@ -144,19 +163,23 @@ fn refused(program: &Program, reject: Reject) -> Fault {
 fn compile_or_fault(alloc: Global, text: &[u8]) -> Result<Compiled, Fault>
     ensures { IfOk result (λ compiled. Accepted compiled.checked) }
 {
-    let program = program_of(alloc, text)?;
-    let image = image_of(alloc, &program)?;
+    let Program {
+        routines,
+        heads,
+        code,
+    } = program_of(alloc, text)?;
+    let image = image_of(alloc, routines, &heads, &code)?;
     let checked = match check(image) {
         Ok(checked) => checked,
         Err((image, reject)) => {
             drop(image);
-            return Err(refused(&program, reject));
+            return Err(refused(&code, reject));
         }
     };
     // For what `image` says of it: the verifier accepted it.
     let _accepted = checked.image();
     let mut places = Vec::new(alloc);
-    for coded in &program.code {
+    for coded in &code {
         places.push(coded.at)?;
     }
     Ok(Compiled { checked, places })

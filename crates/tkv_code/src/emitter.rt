@@ -54,7 +54,7 @@ struct Waiting {
     at: u32,
 }
 
-/// A routine that is being coded.
+/// A routine that is being coded. After the first fault its code does not matter.
 #[derive(Drop)]
 struct Emitter {
     code: Vec<Coded>,
@@ -64,6 +64,8 @@ struct Emitter {
     waiting: Vec<Waiting>,
     /// Whether control comes to the next instruction.
     reached: bool,
+    /// The first fault, if there is one.
+    fault: Option<Fault>,
 }
 
 /// The most instructions and labels of a routine.
@@ -82,48 +84,53 @@ fn jump() -> Instr {
     }
 }
 
-fn no_memory(at: u32) -> Fault {
-    Fault::new(Why::Memory, at)
-}
-
 impl Emitter {
-    fn label(&mut self, at: u32) -> Result<u16, Fault> {
-        let label = self.labels.len();
-        if label >= MOST {
-            return Err(Fault::new(Why::TooMany, at));
-        }
-        match self.labels.push(Label { pc: 0, used: false }) {
-            Ok(()) => Ok(label as u16),
-            Err(_) => Err(no_memory(at)),
+    /// Keeps a fault, if it is the first one.
+    fn refuse(&mut self, why: Why, at: u32) {
+        if self.fault.is_none() {
+            self.fault = Some(Fault::new(why, at));
         }
     }
 
+    fn label(&mut self, at: u32) -> u16 {
+        let label = self.labels.len();
+        if label >= MOST {
+            self.refuse(Why::TooMany, at);
+            return 0;
+        }
+        if self.labels.push(Label { pc: 0, used: false }).is_err() {
+            self.refuse(Why::Memory, at);
+        }
+        label as u16
+    }
+
     /// Adds an instruction, if control comes to it.
-    fn emit(&mut self, instr: Instr, to: Option<u16>, at: u32) -> Result<(), Fault> {
+    fn add(&mut self, instr: Instr, leads: bool, at: u32) {
         if !self.reached {
-            return Ok(());
+            return;
         }
         if self.code.len() >= MOST {
-            return Err(Fault::new(Why::TooMany, at));
+            return self.refuse(Why::TooMany, at);
         }
-        let target = match to {
-            Some(label) => {
-                if let Some(there) = self.labels.get_mut(usize::from(label)) {
-                    there.used = true;
-                }
-                label
-            }
-            None => instr.target,
-        };
+        if leads && let Some(there) = self.labels.get_mut(usize::from(instr.target)) {
+            there.used = true;
+        }
         self.reached = !matches!(instr.opcode, Opcode::Jmp | Opcode::Ret);
-        match self.code.push(Coded {
-            instr: Instr { target, ..instr },
-            leads: to.is_some(),
-            at,
-        }) {
-            Ok(()) => Ok(()),
-            Err(_) => Err(no_memory(at)),
+        if self.code.push(Coded { instr, leads, at }).is_err() {
+            self.refuse(Why::Memory, at);
         }
+    }
+
+    /// Adds an instruction that goes on.
+    fn emit(&mut self, instr: Instr, at: u32) {
+        self.add(instr, false, at);
+    }
+
+    /// Adds an instruction that may lead to a label.
+    fn emit_to(&mut self, instr: Instr, label: u16, at: u32) {
+        let mut aimed = instr;
+        aimed.target = label;
+        self.add(aimed, true, at);
     }
 
     /// The label stands before the next instruction.
@@ -138,49 +145,47 @@ impl Emitter {
     }
 
     /// All rungs that wait stand here, where control does not come.
-    fn put_waiting(&mut self) -> Result<(), Fault> {
+    fn put_waiting(&mut self) {
         for _ in 0..self.waiting.len() {
             let Some(rung) = self.waiting.pop() else {
                 break;
             };
             self.set_here(rung.label);
-            self.emit(rung.instr, None, rung.at)?;
-            self.emit(jump(), Some(rung.to), rung.at)?;
+            self.emit(rung.instr, rung.at);
+            self.emit_to(jump(), rung.to, rung.at);
         }
-        Ok(())
     }
 
-    /// The label stands here, and in front of it the rungs that lead to it.
-    fn put_label(&mut self, label: u16, at: u32) -> Result<(), Fault> {
+    /// The label stands here, and before it the rungs that lead to it.
+    fn put_label(&mut self, label: u16, at: u32) {
         let awaited = self.waiting.iter().any(|rung| rung.to == label);
         if awaited {
-            self.emit(jump(), Some(label), at)?;
-            self.put_waiting()?;
+            self.emit_to(jump(), label, at);
+            self.put_waiting();
         }
         self.set_here(label);
-        Ok(())
     }
 
     /// The rung of a closing by which control leaves to a block.
-    fn rung(&mut self, owner: u16, level: u16, at: u32) -> Result<u16, Fault> {
+    fn rung(&mut self, owner: u16, level: u16, at: u32) -> u16 {
         for rung in &self.rungs {
             if rung.owner == owner && rung.level == level {
-                return Ok(rung.label);
+                return rung.label;
             }
         }
-        let label = self.label(at)?;
-        match self.rungs.push(Rung {
+        let rung = Rung {
             owner,
             level,
-            label,
-        }) {
-            Ok(()) => Ok(label),
-            Err(_) => Err(no_memory(at)),
+            label: self.label(at),
+        };
+        if self.rungs.push(rung).is_err() {
+            self.refuse(Why::Memory, at);
         }
+        rung.label
     }
 
     /// The label by which control leaves to the end of a block: that of a rung, if a closing is on the way.
-    fn way(&mut self, level: u16, at: u32) -> Result<u16, Fault> {
+    fn way(&mut self, level: u16, at: u32) -> u16 {
         let count = self.begun.len();
         for k in 0..count {
             let index = count - 1 - k;
@@ -188,43 +193,39 @@ impl Emitter {
                 break;
             };
             if index == usize::from(level) {
-                return Ok(open.end);
+                return open.end;
             }
-            if open.kind == PlacedKind::Closing && index < MOST {
+            if matches!(open.kind, PlacedKind::Closing) && index < MOST {
                 return self.rung(index as u16, level, at);
             }
         }
-        Err(Fault::new(Why::Unreached, at))
+        self.refuse(Why::Unreached, at);
+        0
     }
 
-    fn begin(&mut self, placed: &Placed) -> Result<(), Fault> {
+    fn begin(&mut self, placed: &Placed) {
         let at = placed.at;
-        let end = self.label(at)?;
-        let head = self.label(at)?;
-        let test = self.label(at)?;
-        match self.begun.push(Open {
+        let open = Open {
             kind: placed.kind,
             instr: placed.instr,
-            end,
-            head,
-            test,
-        }) {
-            Ok(()) => {}
-            Err(_) => return Err(no_memory(at)),
+            end: self.label(at),
+            head: self.label(at),
+            test: self.label(at),
+        };
+        if self.begun.push(open).is_err() {
+            self.refuse(Why::Memory, at);
         }
-        if placed.kind == PlacedKind::Count {
-            self.emit(jump(), Some(test), at)?;
+        if matches!(placed.kind, PlacedKind::Count) {
+            self.emit_to(jump(), open.test, at);
             // The instruction that counts leads here.
             self.reached = true;
         }
-        self.set_here(head);
-        Ok(())
+        self.set_here(open.head);
     }
 
     /// Takes a rung of a closing away, if one is left.
     fn take_rung(&mut self, owner: u16) -> Option<Rung> {
-        let place = self.rungs.iter().position(|rung| rung.owner == owner);
-        match place {
+        match self.rungs.iter().position(|rung| rung.owner == owner) {
             Some(k) => {
                 if k < self.rungs.len() {
                     return Some(self.rungs.swap_remove(k));
@@ -236,59 +237,56 @@ impl Emitter {
     }
 
     /// The rungs of a closing that has ended wait for a place.
-    fn let_wait(&mut self, owner: u16, instr: Instr, at: u32) -> Result<(), Fault> {
+    fn let_wait(&mut self, owner: u16, instr: Instr, at: u32) {
         for _ in 0..self.rungs.len() {
             let Some(rung) = self.take_rung(owner) else {
                 break;
             };
-            let to = self.way(rung.level, at)?;
-            match self.waiting.push(Waiting {
+            let waiting = Waiting {
                 label: rung.label,
                 instr,
-                to,
+                to: self.way(rung.level, at),
                 at,
-            }) {
-                Ok(()) => {}
-                Err(_) => return Err(no_memory(at)),
+            };
+            if self.waiting.push(waiting).is_err() {
+                self.refuse(Why::Memory, at);
             }
         }
-        Ok(())
     }
 
-    fn end(&mut self, placed: &Placed) -> Result<(), Fault> {
+    fn end(&mut self, placed: &Placed) {
         let at = placed.at;
         let Some(open) = self.begun.pop() else {
-            return Err(Fault::new(Why::Unreached, at));
+            return self.refuse(Why::Unreached, at);
         };
         match open.kind {
             PlacedKind::Closing => {
-                self.emit(open.instr, None, at)?;
+                self.emit(open.instr, at);
                 let owner = self.begun.len().min(65_535) as u16;
-                self.let_wait(owner, open.instr, at)
+                self.let_wait(owner, open.instr, at);
             }
             PlacedKind::Loop | PlacedKind::Count => {
-                self.put_label(open.test, at)?;
+                self.put_label(open.test, at);
                 if placed.to != 0 {
-                    self.emit(open.instr, Some(open.head), at)?;
+                    self.emit_to(open.instr, open.head, at);
                 }
-                Ok(())
             }
             _ => self.put_label(open.end, at),
         }
     }
 
-    fn take(&mut self, placed: &Placed) -> Result<(), Fault> {
+    fn take(&mut self, placed: &Placed) {
         match placed.kind {
             PlacedKind::Do => {
                 if placed.to == u16::MAX {
-                    return self.emit(placed.instr, None, placed.at);
+                    return self.emit(placed.instr, placed.at);
                 }
-                let to = self.way(placed.to, placed.at)?;
-                self.emit(placed.instr, Some(to), placed.at)
+                let to = self.way(placed.to, placed.at);
+                self.emit_to(placed.instr, to, placed.at);
             }
             PlacedKind::Leave => {
-                let to = self.way(placed.to, placed.at)?;
-                self.emit(jump(), Some(to), placed.at)
+                let to = self.way(placed.to, placed.at);
+                self.emit_to(jump(), to, placed.at);
             }
             PlacedKind::End => self.end(placed),
             _ => self.begin(placed),
@@ -304,6 +302,7 @@ impl Emitter {
             rungs: _,
             waiting: _,
             reached: _,
+            fault: _,
         } = self;
         aim(&mut code, &labels);
         code
@@ -330,9 +329,16 @@ pub(crate) fn code_of(alloc: Global, placed: &[Placed]) -> Result<Vec<Coded>, Fa
         rungs: Vec::new(alloc),
         waiting: Vec::new(alloc),
         reached: true,
+        fault: None,
     };
     for item in placed {
-        emitter.take(item)?;
+        if emitter.fault.is_some() {
+            break;
+        }
+        emitter.take(item);
     }
-    Ok(emitter.finish())
+    match emitter.fault {
+        Some(fault) => Err(fault),
+        None => Ok(emitter.finish()),
+    }
 }

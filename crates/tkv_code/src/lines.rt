@@ -22,7 +22,7 @@ fn line_at(starts: &[u32], place: u32) -> u32 {
     line.min(4_294_967_295) as u32
 }
 
-/// The line of each place of a source, from 1. `AllocError` where the allocator refuses memory.
+/// The line of each place of a source, from 1. `AllocError` if the allocator refuses memory.
 pub fn lines_of(alloc: Global, text: &[u8], places: &[u32]) -> Result<Vec<u32>, AllocError> {
     let starts = line_starts(alloc, text)?;
     let mut lines = Vec::new(alloc);

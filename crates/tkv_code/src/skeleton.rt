@@ -8,7 +8,7 @@ use geos_image::{
 };
 use std::alloc::{AllocError, Global};
 
-/// How many places are to have a row.
+/// How many places have a row.
 fn key_count(routines: &[Routine], points: &[Point]) -> usize
     requires few { length routines.now ≤ MOST_ROUTINES }
     requires short { length points.now ≤ MOST_INSTRS }
@@ -22,10 +22,10 @@ fn key_count(routines: &[Routine], points: &[Point]) -> usize
     count
 }
 
-/// The image of code, with the open row at its key places and no potential; `None` if it is none that the format allows.
+/// The image of code, with the open row at its key places and no potential; `None` if the format does not allow it.
 pub(crate) fn skeleton(
     alloc: Global,
-    routines: &[Routine],
+    routines: Vec<Routine>,
     code: &[Coded],
 ) -> Result<Option<Image>, AllocError> {
     let mut points = Vec::new(alloc);
@@ -39,18 +39,14 @@ pub(crate) fn skeleton(
             },
         })?;
     }
-    let mut named = Vec::new(alloc);
-    for routine in routines {
-        named.push(*routine)?;
-    }
-    if named.len() > usize::from(MOST_ROUTINES) || points.len() > usize::from(MOST_INSTRS) {
+    if routines.len() > usize::from(MOST_ROUTINES) || points.len() > usize::from(MOST_INSTRS) {
         return Ok(None);
     }
     let mut rows = Vec::new(alloc);
-    for _ in 0..key_count(&named, &points) {
+    for _ in 0..key_count(&routines, &points) {
         rows.push(Row::open())?;
     }
-    Ok(Image::with_keys(named, points, rows))
+    Ok(Image::with_keys(routines, points, rows))
 }
 
 /// The routines of an image, each with the steps that it was found to take as its budget.
@@ -70,7 +66,7 @@ fn budgeted(alloc: Global, image: &Image) -> Result<Vec<Routine>, AllocError> {
     Ok(routines)
 }
 
-/// The image of version 2 of what was found, with the least budgets; `None` if it is none that the format allows.
+/// The image of version 2 of what was found, with the least budgets; `None` if the format does not allow it.
 pub(crate) fn with_budgets(alloc: Global, whole: Whole) -> Result<Option<Image>, AllocError> {
     let image = whole.into_keyed();
     let routines = budgeted(alloc, &image)?;

@@ -7,9 +7,12 @@ use std::alloc::{AllocError, Global};
 /// How often code is gone over: each time at most so many jumps are followed.
 const ROUNDS: usize = 8;
 
-/// The opcode at a pc, if there is one.
-fn opcode_at(code: &[Coded], pc: u16) -> Option<Opcode> {
-    code.get(usize::from(pc)).map(|coded| coded.instr.opcode)
+/// Whether a return is at a pc.
+fn returns_at(code: &[Coded], pc: u16) -> bool {
+    match code.get(usize::from(pc)) {
+        Some(coded) => matches!(coded.instr.opcode, Opcode::Ret),
+        None => false,
+    }
 }
 
 /// Where control comes by jumps on from a pc.
@@ -18,7 +21,7 @@ fn followed(code: &[Coded], pc: u16) -> u16 {
     for _ in 0..ROUNDS {
         match code.get(usize::from(there)) {
             Some(coded) => {
-                if coded.instr.opcode != Opcode::Jmp {
+                if !matches!(coded.instr.opcode, Opcode::Jmp) {
                     break;
                 }
                 there = coded.instr.target;
@@ -35,8 +38,7 @@ fn shorten(code: &mut [Coded]) {
         if code[k].leads {
             let target = followed(code, code[k].instr.target);
             code[k].instr.target = target;
-            let returns = opcode_at(code, target) == Some(Opcode::Ret);
-            if code[k].instr.opcode == Opcode::Jmp && returns {
+            if matches!(code[k].instr.opcode, Opcode::Jmp) && returns_at(code, target) {
                 code[k].instr.opcode = Opcode::Ret;
                 code[k].instr.target = 0;
                 code[k].leads = false;
@@ -57,7 +59,7 @@ fn reached(alloc: Global, code: &[Coded]) -> Result<Vec<bool>, AllocError> {
     let mut flags = vec![in alloc; false; code.len()]?;
     set(&mut flags, 0);
     for coded in code {
-        if coded.instr.opcode == Opcode::Loop {
+        if matches!(coded.instr.opcode, Opcode::Loop) {
             set(&mut flags, usize::from(coded.instr.target));
         }
     }
@@ -94,7 +96,8 @@ fn jumps_on(flags: &[bool], k: usize, target: u16) -> bool {
 fn dropped(alloc: Global, code: &[Coded]) -> Result<Vec<Coded>, AllocError> {
     let mut flags = reached(alloc, code)?;
     for (k, coded) in code.iter().enumerate() {
-        let next = coded.instr.opcode == Opcode::Jmp && jumps_on(&flags, k, coded.instr.target);
+        let jumps = matches!(coded.instr.opcode, Opcode::Jmp);
+        let next = jumps && jumps_on(&flags, k, coded.instr.target);
         if next && k < flags.len() {
             flags[k] = false;
         }
