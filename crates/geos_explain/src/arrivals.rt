@@ -24,7 +24,7 @@ pub(crate) fn arrival(arrivals: &Arrivals, pc: usize) -> Option<Pointer>
     if pc < 4096 { arrivals[pc] } else { None }
 }
 
-/// What is known of the pointer behind the instruction, on an edge that it has.
+/// What is known of the pointer after the instruction, on an edge that it has.
 fn behind(image: &Filled, followed: Followed, edge: Edge, point: &KnownPlace) -> Option<Pointer>
     requires { slice_get (places image.now) edge.from ≡ Some point.now }
     ensures { result ≡ behind image.now followed edge point.now }
@@ -109,7 +109,7 @@ fn arrivals_at_entry(place: &Place, p: u8) -> Arrivals
 }
 
 /// What is known of the pointer on some way to each pc of the routine, along edges from where control comes as it comes to the
-/// place. What is known behind an instruction is found at first, and again where more comes to it, which is once: so there are at
+/// place. What is known after an instruction is found at first, and again if more comes to it, which is once: so there are at
 /// most as many sweeps as the routine has instructions.
 pub(crate) fn all_arrivals(place: &Place, p: u8) -> Arrivals
     ensures { AreHints (place_of place.now) p result }

@@ -1,4 +1,4 @@
-//! Which budget serves a routine, which counters are still to pay at its beginning, from which a LOOP takes though nothing sets them,
+//! Which budget is enough for a routine, which counters are still to pay at its beginning, from which a LOOP takes though nothing sets them,
 //! and which is set to a word that may be any.
 
 ghost use Rattle.std.specs.Prelude.{◌≡◌, ◌<◌};
@@ -60,7 +60,7 @@ fn leaves_alone(i: &Instr, k: u8) -> bool
     !takes(counter, i, k) && !gives(counter, i, k)
 }
 
-/// The edges of the place's routine that leave a counter alone, and behind which it still pays.
+/// The edges of the place's routine that do not touch a counter, and after which it still pays.
 #[derive(Clone, Copy)]
 struct Unset<'a> {
     place: &'a Place<'a>,
@@ -84,7 +84,7 @@ impl<'a> Counting for Unset<'a> {
     }
 }
 
-/// The pcs to which a way leads from the place that leaves the counter alone, and on which it still pays.
+/// The pcs to which a way leads from the place that does not touch the counter, and on which it still pays.
 fn unset_from(place: &Place, k: u8) -> Marks
     requires { k < 4 }
     ensures { Marking result (is_unset_at (place_of place.now) k) }
@@ -128,10 +128,12 @@ fn unset_loop(place: &Place, k: u8) -> Option<u16>
 fn put_unset_loop(out: &mut Saying, place: &Place, k: u8, pc: u16)
     requires { IsTakenUnset (place_of place.now) k pc }
 {
-    put!(out; "; k" {k} " is not set on a path to LOOP at" at(pc) ": set it first by SETK or SETKW")
+    out.number("; k", k as u64)
+        .at(" is not set on a path to LOOP at", pc)
+        .text(": set it first by SETK or SETKW");
 }
 
-/// The same of a counter that still pays at a place, where there is such an instruction.
+/// The same of a counter that still pays at a place, if there is such an instruction.
 fn put_unset_item(out: &mut Saying, place: &Place, k: u8)
     requires { k < 4 }
 {
@@ -150,7 +152,7 @@ pub fn what_is_said_of_counters_holds()
     ensures { WhatIsSaidOfCountersHolds }
 {}
 
-/// Whether the instruction at a pc calls a routine that does not stand before that of the place.
+/// Whether the instruction at a pc calls a routine that is not before that of the place.
 #[tactic(auto, unfolding(crate::specs::Budgets::calls_on_at))]
 fn calls_on_at(place: &Place, from: u16) -> bool
     ensures { result ≡ calls_on_at (place_of place.now) from }
@@ -175,14 +177,15 @@ fn calling_on(place: &Place) -> Option<u16>
     first
 }
 
-/// No budget serves because of the call at a pc.
+/// No budget is enough because of the call at a pc.
 fn put_never_served(out: &mut Saying, place: &Place, from: u16)
     requires { IsNeverServed (place_of place.now) from }
 {
-    put!(out; ": no budget is enough, since CALL at" at(from) " names no earlier routine")
+    out.at(": no budget is enough, since CALL at", from)
+        .text(" names no earlier routine");
 }
 
-/// Which budget serves: none where there is such a call, else the least that the potential is within.
+/// Which budget is enough: none if there is such a call, and otherwise the least that the potential is within.
 fn put_serving(out: &mut Saying, place: &Place) {
     match calling_on(place) {
         Some(from) => put_never_served(out, place, from),
@@ -233,10 +236,12 @@ fn put_any(out: &mut Saying, place: &Place, from: u16)
     requires { IsSetToAny (place_of place.now) from }
 {
     match place.image.point(from) {
-        Some(point) => put!(out;
-            "; w" {point.instr.b} " may be 65535 at" at(from) ", which sets k" {point.instr.a}
-            ": bound it by CHK before that"
-        ),
+        Some(point) => {
+            out.number("; w", point.instr.b as u64)
+                .at(" may be 65535 at", from)
+                .number(", which sets k", point.instr.a as u64)
+                .text(": bound it by CHK before that");
+        },
         None => {}
     }
 }
@@ -254,7 +259,7 @@ pub fn what_is_said_of_words_holds()
     ensures { WhatIsSaidOfWordsHolds }
 {}
 
-/// The potential is above the budget, which budget serves, which counters are never set, and which is set to a word that may be any.
+/// The potential is above the budget, which budget is enough, which counters are never set, and which is set to a word that may be any.
 pub(crate) fn put_over(out: &mut Saying, place: &Place) {
     put_budget(out, place.routine, place.potential);
     put_serving(out, place);
@@ -264,7 +269,7 @@ pub(crate) fn put_over(out: &mut Saying, place: &Place) {
     put_any_item(out, place)
 }
 
-/// A law: a call for which no budget is said to serve is one of the routine, and the rule on calls refuses it whatever the
+/// A law: a call for which no budget is said to be enough is one of the routine, and the rule on calls refuses it whatever the
 /// budget is.
 pub fn what_is_said_of_budgets_holds()
     ensures { WhatIsSaidOfBudgetsHolds }

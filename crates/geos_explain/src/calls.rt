@@ -4,7 +4,7 @@ ghost use Rattle.std.specs.Prelude.{◌<◌, length};
 
 use crate::filled::Filled;
 use crate::place::Place;
-use crate::saying::{Part, Saying};
+use crate::saying::Saying;
 use crate::uses::unlocking;
 use geos_image::{Routine, SlotState};
 use geos_opcodes::SlotUse;
@@ -104,48 +104,44 @@ pub(crate) fn forbids(image: &Filled, r: u16, state: SlotState) -> Option<&'stat
     None
 }
 
+/// A slot that has a block is to be emptied before a CALL of a routine that forbids it.
+fn put_emptied(out: &mut Saying, a: u8, state: SlotState, name: &[u8], why: &str) {
+    out.text(unlocking(state))
+        .number(" s", a as u64)
+        .name(" before the CALL, since ", name)
+        .text(why);
+}
+
+/// A routine that a CALL names locks a block into the slot.
+fn put_locked(out: &mut Saying, a: u8, name: &[u8]) {
+    out.name("", name)
+        .number(" locks a block into s", a as u64)
+        .name(
+            " itself: lock this one into another slot, and say that in the in and out lines of ",
+            name,
+        );
+}
+
 /// What to do with a slot that has a block at a CALL of a routine that requires it empty.
 fn put_lent(out: &mut Saying, place: &Place, callee: &Routine, a: u8) {
     let state = slot_state(place.row, a);
-    let name = Part::Name(callee.name_text());
-    let slot = Part::Numbered(" s", a as u64);
-    let held = Part::Slot(a, state);
-    let nothing = Part::Text("");
-    let why = forbids(place.image, place.i.imm, state);
-    let parts = match (why, change_of(place.image, place.i.imm, a)) {
-        (Some(why), _) => [
-            Part::Text(unlocking(state)),
-            slot,
-            Part::Text(" before the CALL, since "),
-            name,
-            Part::Text(why),
-        ],
-        (None, Change::Locks) => [
-            name,
-            Part::Text(" locks a block into"),
-            slot,
-            Part::Text(
-                " itself: lock this one into another slot, and say that in the in and out lines of ",
-            ),
-            name,
-        ],
-        (None, Change::Unlocks) => [
-            Part::Text("say"),
-            held,
-            Part::Text(" in the in line of "),
-            name,
-            Part::Text(", which unlocks it"),
-        ],
-        (None, Change::Leaves) => [
-            Part::Text("say"),
-            held,
-            Part::Text(" in the in and out lines of "),
-            name,
-            nothing,
-        ],
-    };
-    put!(out; "; ");
-    out.put(&parts)
+    let name = callee.name_text();
+    out.text("; ");
+    if let Some(why) = forbids(place.image, place.i.imm, state) {
+        return put_emptied(out, a, state, name, why);
+    }
+    match change_of(place.image, place.i.imm, a) {
+        Change::Locks => put_locked(out, a, name),
+        Change::Unlocks => {
+            out.slot("say", a, state)
+                .name(" in the in line of ", name)
+                .text(", which unlocks it");
+        }
+        Change::Leaves => {
+            out.slot("say", a, state)
+                .name(" in the in and out lines of ", name);
+        }
+    }
 }
 
 /// The same of each such slot.

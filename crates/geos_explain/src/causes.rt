@@ -3,9 +3,10 @@
 ghost use Rattle.std.specs.Prelude.{◌≡◌};
 ghost use Rattle.geos_explain.specs.Causes.{is_refusable};
 
-use crate::saying::{Part, Saying, either};
+use crate::saying::{Saying, either};
 use geos_causes::{
-    Apart, BackWay, Cause, Coming, Emptied, LoopOn, LoopPair, LoopRing, Within, slots_agree,
+    Apart, BackWay, ByNumber, ByWord, Cause, Coming, Emptied, LoopOn, LoopPair, LoopRing, Within,
+    slots_agree,
 };
 use geos_image::{Instr, SlotState};
 use geos_opcodes::SlotUse;
@@ -28,19 +29,24 @@ fn name_text(name: &[u8; 16]) -> &[u8] {
 /// A CALL requires a slot empty that has a block, and leaves it empty.
 fn put_unsaid(out: &mut Saying, a: u8, emptied: &Emptied) {
     let name = name_text(&emptied.callee);
-    put!(out;
-        "; CALL at" at(emptied.at) " requires that s" {a} " is empty, and leaves it so: unlock s" {a}
-        " before the CALL; or, if " name(name) " is private, does not write the file and locks nothing into s" {a}
-        ", say" slot(a, emptied.state) " in the in and out lines of " name(name)
-    )
+    out.at("; CALL at", emptied.at)
+        .number(" requires that s", a as u64)
+        .number(" is empty, and leaves it so: unlock s", a as u64)
+        .name(" before the CALL; or, if ", name)
+        .number(
+            " is private, does not write the file and locks nothing into s",
+            a as u64,
+        )
+        .slot(", say", a, emptied.state)
+        .name(" in the in and out lines of ", name);
 }
 
 /// A CALL of a later routine leaves a slot empty.
 fn put_later(out: &mut Saying, a: u8, emptied: &Emptied) {
-    put!(out;
-        "; CALL at" at(emptied.at) " leaves s" {a} " empty: " name(name_text(&emptied.callee))
-        " comes after this routine, so move it before this one"
-    )
+    out.at("; CALL at", emptied.at)
+        .number(" leaves s", a as u64)
+        .name(" empty: ", name_text(&emptied.callee))
+        .text(" comes after this routine, so move it before this one");
 }
 
 /// The last CALL before a pc, or there, after which no instruction locks or unlocks the slot, or goes elsewhere.
@@ -63,12 +69,14 @@ fn last_call(instrs: &[Instr], from: u16, a: u8) -> Option<u16> {
 
 /// A CALL left a slot as the `out` line of its routine says, which is to have what it has on another way.
 fn put_left(out: &mut Saying, a: u8, call: u16, other: SlotState) {
-    let (cure, state) = if is_empty(other) {
-        ("unlock it after the CALL", Part::Text(""))
+    out.at("; CALL at", call)
+        .number(" leaves in s", a as u64)
+        .text(" what the out line of its routine says: ");
+    if is_empty(other) {
+        out.text("unlock it after the CALL");
     } else {
-        ("let the in and out lines there say", Part::Slot(a, other))
-    };
-    put!(out; "; CALL at" at(call) " leaves in s" {a} " what the out line of its routine says: " [cure] (state))
+        out.slot("let the in and out lines there say", a, other);
+    }
 }
 
 /// The CALL that left a slot as it is where control comes so, and what helps, if one is named or comes last. Whether one is.
@@ -119,24 +127,28 @@ fn is_refusable(instrs: &[Instr], from: u16) -> bool
 
 /// Where control comes from.
 fn put_from(out: &mut Saying, instrs: &[Instr], coming: &Coming) {
-    let (words, place) = match coming.from {
-        Some(edge) if edge.branch && is_refusable(instrs, edge.from) => {
-            (" from the refusal at", Part::At(edge.from))
+    match coming.from {
+        Some(edge) => {
+            let by_refusal = edge.branch && is_refusable(instrs, edge.from);
+            out.at(
+                either(by_refusal, " from the refusal at", " from"),
+                edge.from,
+            );
         }
-        Some(edge) => (" from", Part::At(edge.from)),
-        None => (" from the in line", Part::Text("")),
-    };
-    put!(out; [words] (place) ":")
+        None => {
+            out.text(" from the in line");
+        }
+    }
+    out.text(":");
 }
 
 /// What a slot has.
 fn put_state(out: &mut Saying, a: u8, state: SlotState) {
-    let (slot, empty) = if is_empty(state) {
-        (Part::Numbered(" s", a as u64), " empty")
+    if is_empty(state) {
+        out.number(" s", a as u64).text(" empty");
     } else {
-        (Part::Slot(a, state), "")
-    };
-    put!(out; (slot) [empty])
+        out.slot("", a, state);
+    }
 }
 
 /// How control comes to a place, and the slots that differ in more than marks from those of another way.
@@ -154,16 +166,16 @@ fn put_coming(out: &mut Saying, instrs: &[Instr], coming: &Coming, other: &Comin
 fn put_label(out: &mut Saying, instrs: &[Instr], coming: &Coming) {
     if let Some(edge) = coming.from {
         if edge.branch && is_refusable(instrs, edge.from) {
-            put!(out; "give" at(edge.from) " another label, or ")
+            out.at("give", edge.from).text(" another label, or ");
         }
     }
 }
 
 /// Slots differ where ways meet, the CALLs by which they do, or what else helps.
 fn put_apart(out: &mut Saying, instrs: &[Instr], apart: &Apart) {
-    put!(out; "at" at(apart.to) ",");
+    out.at("at", apart.to).text(",");
     put_coming(out, instrs, &apart.first, &apart.second);
-    put!(out; ";");
+    out.text(";");
     put_coming(out, instrs, &apart.second, &apart.first);
     let first = put_calls(out, instrs, &apart.first, &apart.second);
     let second = put_calls(out, instrs, &apart.second, &apart.first);
@@ -174,16 +186,16 @@ fn put_apart(out: &mut Saying, instrs: &[Instr], apart: &Apart) {
 
 /// What helps if no CALL does.
 fn put_alike(out: &mut Saying, instrs: &[Instr], apart: &Apart) {
-    put!(out; "; ");
+    out.text("; ");
     put_label(out, instrs, &apart.first);
     put_label(out, instrs, &apart.second);
-    put!(out; "lock and unlock alike on both paths")
+    out.text("lock and unlock alike on both paths");
 }
 
 /// A text, a way by which control goes round, which may lead ahead, of a LOOP to its target, and what helps.
 fn put_back(out: &mut Saying, text: &'static str, back: &BackWay, cure: &'static str) {
     let leads = either(back.from < back.to, " leads on to", " goes back to");
-    put!(out; [text] at(back.from) [leads] at(back.to) [cure])
+    out.at(text, back.from).at(leads, back.to).text(cure);
 }
 
 /// A counter is set, or touched by a CALL, within its loop or before it; and what helps.
@@ -195,96 +207,72 @@ fn put_within(
     cure: &'static str,
 ) {
     if touches {
-        put!(out; "the CALL at" at(within.at) " touches k" {within.counter})
+        out.at("the CALL at", within.at)
+            .number(" touches k", within.counter as u64);
     } else {
-        put!(out; "k" {within.counter} " is set at" at(within.at))
+        out.number("k", within.counter as u64)
+            .at(" is set at", within.at);
     }
     put_back(out, text, &within.back, cure)
 }
 
 /// A counter is set in the loop of a way that leads back.
 fn put_set_in(out: &mut Saying, counter: u8, at: u16, back: &BackWay) {
-    put!(out; "k" {counter} " at" at(at));
+    out.number("k", counter as u64).at(" at", at);
     put_back(out, " in the loop where", back, "")
 }
 
 /// Two loops set the counters of each other.
 fn put_in_turn(out: &mut Saying, both: &LoopPair) {
-    put!(out; "two loops set the counters of each other: ");
+    out.text("two loops set the counters of each other: ");
     put_set_in(out, both.other_counter, both.at, &both.back);
-    put!(out; ", and ");
+    out.text(", and ");
     put_set_in(out, both.counter, both.other_at, &both.other);
-    put!(out; "; set one of them outside the loop of the other")
+    out.text("; set one of them outside the loop of the other");
 }
 
 /// Loops set the counters of each other in a ring.
 fn put_in_ring(out: &mut Saying, ring: &LoopRing) {
-    put!(out; "loops set the counters of each other in a ring: ");
+    out.text("loops set the counters of each other in a ring: ");
     put_set_in(out, ring.next_counter, ring.at, &ring.back);
-    put!(out; ", ");
+    out.text(", ");
     put_set_in(out, ring.third_counter, ring.next_at, &ring.next);
-    put!(out; ", and so on; set one of them outside the other loops")
+    out.text(", and so on; set one of them outside the other loops");
 }
 
-/// What is said if a counter is set to a word, or to a number, for a loop that takes too many steps.
-fn dear(cause: &Cause) -> [Part<'static>; 5] {
-    const NUMBER: Part = Part::Text(": set it to a lower number");
-    const WORD: Part = Part::Text(": CHK it by a lower number before that");
-    const NONE: Part = Part::Text("");
-    match cause {
-        Cause::WordUnbounded(by) => [
-            Part::Numbered("the steps may pass 4,294,967,295, since w", by.word as u64),
-            Part::Numbered(" may be ", by.most as u64),
-            Part::Placed(" at", by.at),
-            WORD,
-            NONE,
-        ],
-        Cause::WordDear(by) => [
-            Part::Numbered("no steps up to 4,294,967,295 were found; w", by.word as u64),
-            Part::Numbered(" may be ", by.most as u64),
-            Part::Placed(" at", by.at),
-            Part::Numbered(", which sets k", by.counter as u64),
-            WORD,
-        ],
-        Cause::NumberHigh(by) => [
-            Part::Numbered(
-                "the steps may pass 4,294,967,295, since k",
-                by.counter as u64,
-            ),
-            Part::Numbered(" is set to ", by.number as u64),
-            Part::Placed(" at", by.at),
-            NUMBER,
-            NONE,
-        ],
-        Cause::NumberDear(by) => [
-            Part::Numbered(
-                "no steps up to 4,294,967,295 were found; k",
-                by.counter as u64,
-            ),
-            Part::Numbered(" is set to ", by.number as u64),
-            Part::Placed(" at", by.at),
-            NUMBER,
-            NONE,
-        ],
-        _ => [NONE, NONE, NONE, NONE, NONE],
-    }
+/// Where a word that sets a counter may be too much.
+fn put_word(out: &mut Saying, text: &str, by: &ByWord) {
+    out.number(text, by.word as u64)
+        .number(" may be ", by.most as u64)
+        .at(" at", by.at);
 }
 
-/// What is said if no place is named.
-fn plain(cause: &Cause) -> &'static str {
-    match cause {
-        Cause::StepsPass =>
-            "the steps pass 4,294,967,295: set counters to lower numbers, or call routines with lower budgets",
-        Cause::StepsMayPass =>
-            "the steps may pass 4,294,967,295 on a path without a loop: call routines with lower budgets",
-        Cause::Unknown => "no steps were found",
-        _ => "",
-    }
+/// The steps may pass the greatest number, since a counter is set to a word.
+fn put_word_unbounded(out: &mut Saying, by: &ByWord) {
+    put_word(out, "the steps may pass 4,294,967,295, since w", by);
+    out.text(CHECK);
+}
+
+/// No steps were found, since a counter is set to a word.
+fn put_word_dear(out: &mut Saying, by: &ByWord) {
+    put_word(out, "no steps up to 4,294,967,295 were found; w", by);
+    out.number(", which sets k", by.counter as u64).text(CHECK);
+}
+
+/// What helps with such a word.
+const CHECK: &str = ": CHK it by a lower number before that";
+
+/// A counter is set to a number that is too high, and what helps.
+fn put_number(out: &mut Saying, text: &str, by: &ByNumber) {
+    out.number(text, by.counter as u64)
+        .number(" is set to ", by.number as u64)
+        .at(" at", by.at)
+        .text(": set it to a lower number");
 }
 
 /// Nothing sets the counter of a LOOP on a path to it.
 fn put_not_set(out: &mut Saying, own: &LoopOn) {
-    put!(out; "nothing sets k" {own.counter});
+    out.number("nothing sets k", own.counter as u64);
     put_back(
         out,
         " on a path to its loop:",
@@ -293,8 +281,8 @@ fn put_not_set(out: &mut Saying, own: &LoopOn) {
     )
 }
 
-/// What is said of the counters of loops.
-fn put_counters(out: &mut Saying, cause: &Cause) {
+/// What is said of the counter of a loop.
+fn put_counter(out: &mut Saying, cause: &Cause) {
     match cause {
         Cause::SetWithin(within) | Cause::SetAgain(within) => put_within(
             out,
@@ -317,47 +305,74 @@ fn put_counters(out: &mut Saying, cause: &Cause) {
             ", which nothing sets before its loop:",
             "; set it after the CALL",
         ),
-        Cause::NotSet(own) => put_not_set(out, own),
-        Cause::InTurn(both) => put_in_turn(out, both),
-        Cause::InRing(ring) => put_in_ring(out, ring),
         _ => {}
     }
 }
 
 /// What is said of a loop for which no steps are found, and what helps.
-fn of_loop(cause: &Cause) -> Option<(&'static str, BackWay, &'static str)> {
+fn put_loop(out: &mut Saying, cause: &Cause) {
     match cause {
-        Cause::NoLoop(back) => Some((
+        Cause::NoLoop(back) => put_back(
+            out,
             "no counter pays for the path back:",
-            *back,
+            back,
             "; end the loop by LOOP, and set its counter before the loop",
-        )),
-        Cause::GivenUp(back) => Some((
+        ),
+        Cause::GivenUp(back) => put_back(
+            out,
             "the search for steps takes too long and was given up; the first loop:",
-            *back,
+            back,
             "; use fewer or simpler loops",
-        )),
-        Cause::NoSteps(back) => Some(("no steps were found for the loop:", *back, "; simplify it")),
-        Cause::Unfound(back) => Some((
-            "no steps were found; the first loop:",
-            *back,
+        ),
+        Cause::NoSteps(back) => put_back(
+            out,
+            "no steps were found for the loop:",
+            back,
             "; simplify it",
-        )),
-        _ => None,
+        ),
+        Cause::Unfound(back) => put_back(
+            out,
+            "no steps were found; the first loop:",
+            back,
+            "; simplify it",
+        ),
+        _ => {}
+    }
+}
+
+/// What is said if no place is named.
+fn plain(cause: &Cause) -> &'static str {
+    match cause {
+        Cause::StepsPass =>
+            "the steps pass 4,294,967,295: set counters to lower numbers, or call routines with lower budgets",
+        Cause::StepsMayPass =>
+            "the steps may pass 4,294,967,295 on a path without a loop: call routines with lower budgets",
+        Cause::Unknown => "no steps were found",
+        _ => "",
     }
 }
 
 /// Why no rows or no numbers of steps are found.
 fn put_cause(out: &mut Saying, instrs: &[Instr], cause: &Cause) {
-    if let Cause::SlotsDiffer(apart) = cause {
-        put_apart(out, instrs, apart)
+    match cause {
+        Cause::SlotsDiffer(apart) => put_apart(out, instrs, apart),
+        Cause::NotSet(own) => put_not_set(out, own),
+        Cause::InTurn(both) => put_in_turn(out, both),
+        Cause::InRing(ring) => put_in_ring(out, ring),
+        Cause::WordUnbounded(by) => put_word_unbounded(out, by),
+        Cause::WordDear(by) => put_word_dear(out, by),
+        Cause::NumberHigh(by) => {
+            put_number(out, "the steps may pass 4,294,967,295, since k", by)
+        }
+        Cause::NumberDear(by) => {
+            put_number(out, "no steps up to 4,294,967,295 were found; k", by)
+        }
+        _ => {
+            put_counter(out, cause);
+            put_loop(out, cause);
+            out.text(plain(cause));
+        }
     }
-    put_counters(out, cause);
-    if let Some((text, back, cure)) = of_loop(cause) {
-        put_back(out, text, &back, cure)
-    }
-    out.put(&dear(cause));
-    out.put(&[Part::Text(plain(cause))])
 }
 
 /// The line that says why no rows or no numbers of steps are found for instructions. `lines` has the number of each one's line,
@@ -370,6 +385,6 @@ pub fn explain_cause(
 ) -> Result<Vec<u8>, AllocError> {
     let mut out = Saying::new(alloc, lines);
     put_cause(&mut out, instrs, cause);
-    put!(out; "\n");
+    out.text("\n");
     out.finish()
 }

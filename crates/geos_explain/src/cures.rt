@@ -9,7 +9,7 @@ use crate::forgotten::{Item, forgetting_call, knows, last_moving};
 use crate::lacks::as_marked;
 use crate::led::is_reached;
 use crate::place::Place;
-use crate::saying::{Part, Saying};
+use crate::saying::Saying;
 use crate::stale::{name_at, put_traced};
 use crate::uses::{mark_word, put_ask_wish, put_bounding, unlocking};
 use geos_image::{Opcode, Pointer, Row, SlotState};
@@ -18,61 +18,62 @@ use geos_verify::{Place as KnownPlace, are_alike, is_empty, pointer_at, slot_fit
 /// The slots of each pair of a row.
 const PAIRS: [(u8, u8); 6] = [(0, 1), (0, 2), (0, 3), (1, 2), (1, 3), (2, 3)];
 
-/// The item as it is in a line `in` or `out`. Of a word that is changed after the CALL, before which this row is known, the bound there; of
-/// a slot that is to have a block, what it has there.
-fn item_parts(
-    place: &Place,
-    item: Item,
-    row: &Row,
-) -> (Part<'static>, Part<'static>, Part<'static>) {
+/// The bound of a word that is to be said, if the row before a CALL knows it: if the word is changed after the CALL, what the row knows.
+fn bound_before(place: &Place, item: Item, row: &Row, w: u8, most: u16) -> u16 {
+    match row.bounds.get(usize::from(w)) {
+        Some(bound) if last_moving(place, item, w).is_some() => *bound,
+        _ => most,
+    }
+}
+
+/// Two slots with different blocks, as in a line `in` or `out`.
+fn put_apart(out: &mut Saying, pair: u8) {
+    if let Some((a, b)) = PAIRS.get(usize::from(pair)) {
+        out.number(" s", *a as u64).number("#s", *b as u64);
+    }
+}
+
+/// A pointer as in a line `in` or `out`.
+fn put_leads(out: &mut Saying, p: u8, pointer: Pointer) {
+    out.number(" p", p as u64)
+        .number("=s", pointer.slot as u64)
+        .number(":", pointer.least as u64);
+}
+
+/// The item as it is in a line `in` or `out`. Of a slot that is to have a block, what the row has there.
+fn put_item(out: &mut Saying, place: &Place, item: Item, row: &Row) {
     match item {
         Item::Bound(w, most) => {
-            let before = match row.bounds.get(usize::from(w)) {
-                Some(bound) if last_moving(place, item, w).is_some() => *bound,
-                _ => most,
-            };
-            (
-                Part::Numbered(" w", w as u64),
-                Part::Numbered("<=", before as u64),
-                Part::Text(""),
-            )
+            let bound = bound_before(place, item, row, w, most);
+            out.number(" w", w as u64).number("<=", bound as u64);
         }
-        Item::Slot(a, state) => (Part::Slot(a, state), Part::Text(""), Part::Text("")),
-        Item::Held(a) => (
-            Part::Slot(a, slot_state(row, a)),
-            Part::Text(""),
-            Part::Text(""),
-        ),
-        Item::Leads(p, pointer) => (
-            Part::Numbered(" p", p as u64),
-            Part::Numbered("=s", pointer.slot as u64),
-            Part::Numbered(":", pointer.least as u64),
-        ),
-        Item::Apart(pair) => match PAIRS.get(usize::from(pair)) {
-            Some(slots) => (
-                Part::Numbered(" s", slots.0 as u64),
-                Part::Numbered("#s", slots.1 as u64),
-                Part::Text(""),
-            ),
-            None => (Part::Text(""), Part::Text(""), Part::Text("")),
-        },
+        Item::Slot(a, state) => {
+            out.slot("", a, state);
+        }
+        Item::Held(a) => {
+            out.slot("", a, slot_state(row, a));
+        }
+        Item::Leads(p, pointer) => put_leads(out, p, pointer),
+        Item::Apart(pair) => put_apart(out, pair),
     }
 }
 
 /// The item is to be said in the lines of a routine.
 fn put_say(out: &mut Saying, place: &Place, item: Item, row: &Row, name: &[u8]) {
-    let (first, second, third) = item_parts(place, item, row);
-    put!(out; ": say" (first) (second) (third) " in the in and out lines of " name(name))
+    out.text(": say");
+    put_item(out, place, item, row);
+    out.name(" in the in and out lines of ", name);
 }
 
 /// A pointer is to be fetched again, or said in the lines of a routine that leaves its slot.
 fn put_again(out: &mut Saying, p: u8, pointer: Pointer, change: Change, name: &[u8]) {
-    put!(out; ": fetch p" {p} " again after it");
+    out.number(": fetch p", p as u64).text(" again after it");
     if let Change::Leaves = change {
-        put!(out;
-            ", or, if " name(name) " moves nothing in s" {pointer.slot} ", say p" {p} "=s" {pointer.slot} ":"
-            {pointer.least} " in the in and out lines of " name(name)
-        )
+        out.name(", or, if ", name)
+            .number(" moves nothing in s", pointer.slot as u64)
+            .text(", say");
+        put_leads(out, p, pointer);
+        out.name(" in the in and out lines of ", name);
     }
 }
 
@@ -85,17 +86,22 @@ fn put_changed(out: &mut Saying, a: u8, change: Change, name: &[u8]) {
         ),
         _ => (" unlocks s", ": lock it again after the CALL"),
     };
-    put!(out; ", and " name(name) [does] "" {a} [cure])
+    out.name(", and ", name)
+        .text(does)
+        .number("", a as u64)
+        .text(cure);
 }
 
 /// A slot is to be unlocked before a CALL, for this reason.
 fn put_before(out: &mut Saying, a: u8, state: SlotState, name: &[u8], why: &'static str) {
-    put!(out;
-        ": " [unlocking(state)] " s" {a} " before it, and lock it again after it, since " name(name) [why]
-    )
+    out.text(": ")
+        .text(unlocking(state))
+        .number(" s", a as u64)
+        .name(" before it, and lock it again after it, since ", name)
+        .text(why);
 }
 
-/// What helps where a CALL of routine r forgets what a slot had.
+/// What helps if a CALL of routine r forgets what a slot had.
 fn put_slot_wish(out: &mut Saying, place: &Place, item: Item, a: u8, r: u16, row: &Row) {
     let name = name_at(place.image, r);
     let known = slot_state(row, a);
@@ -106,7 +112,7 @@ fn put_slot_wish(out: &mut Saying, place: &Place, item: Item, a: u8, r: u16, row
     }
 }
 
-/// What helps where a CALL of routine r forgets the item, which the row knows: to say it in the lines of that routine, unless the routine
+/// What helps if a CALL of routine r forgets the item, which the row knows: to say it in the lines of that routine, unless the routine
 /// changes its slot; a pointer may be fetched again.
 pub(crate) fn put_kept_wish(out: &mut Saying, place: &Place, item: Item, r: u16, row: &Row) {
     match item {
@@ -124,7 +130,12 @@ fn put_forgotten_at(out: &mut Saying, place: &Place, item: Item, from: u16, poin
     requires { IsForgottenBy (place_of place.now) item from }
 {
     let r = point.instr.imm;
-    put!(out; "; CALL at" at(from) " leaves only what the out line of " name(name_at(place.image, r)) " says");
+    out.at("; CALL at", from)
+        .name(
+            " leaves only what the out line of ",
+            name_at(place.image, r),
+        )
+        .text(" says");
     put_kept_wish(out, place, item, r, &point.row)
 }
 
@@ -155,7 +166,10 @@ fn put_bound_cure(out: &mut Saying, place: &Place, wanted: &Row, w: u8)
 
 /// The block of a slot is to be marked.
 fn put_marking(out: &mut Saying, a: u8, state: SlotState) {
-    put!(out; "; " [mark_word(state)] " s" {a} " before this marks it")
+    out.text("; ")
+        .text(mark_word(state))
+        .number(" s", a as u64)
+        .text(" before this marks it");
 }
 
 /// What a slot is to have that it does not have, and that no CALL took: at a return, or elsewhere.
@@ -177,7 +191,7 @@ fn put_locking(out: &mut Saying, place: &Place, wanted: SlotState, a: u8) {
             "",
         )
     };
-    put!(out; [words] " s" {a} [cure])
+    out.text(words).number(" s", a as u64).text(cure);
 }
 
 /// The same of what a slot has.
@@ -197,7 +211,9 @@ fn put_slot_cure(out: &mut Saying, place: &Place, wanted: &Row, a: u8) {
 
 /// The pointer leads into another slot.
 fn put_other_slot(out: &mut Saying, p: u8, known: u8, wanted: u8) {
-    put!(out; "; p" {p} " leads into s" {known} ": fetch it from s" {wanted})
+    out.number("; p", p as u64)
+        .number(" leads into s", known as u64)
+        .number(": fetch it from s", wanted as u64);
 }
 
 /// The same of where a pointer leads. Whether it was followed back, which `follows` allows.
@@ -228,7 +244,9 @@ fn put_pointer_cure(out: &mut Saying, place: &Place, wanted: &Row, p: u8, follow
 
 /// Two slots are to be compared.
 fn put_comparing(out: &mut Saying, a: u8, b: u8) {
-    put!(out; "; SNE s" {a} " s" {b} " L before this tells them apart")
+    out.number("; SNE s", a as u64)
+        .number(" s", b as u64)
+        .text(" L before this tells them apart");
 }
 
 /// The same of two slots that are to have different blocks.

@@ -23,7 +23,7 @@ use std::alloc::{AllocError, Global};
 /// What is known at the instruction, up to the end of the line, and what is wrong with it, and with the budget of its routine.
 fn put_noted(out: &mut Saying, within: &ExplainedRoutine, place: &Place) {
     put_note(out, place);
-    put!(out; "\n");
+    out.text("\n");
     put_refusal(out, within.explained, place);
     put_over_budget(out, within, place.pc)
 }
@@ -139,11 +139,11 @@ fn is_line_of(lines: &[u32], pc: u16, number: usize) -> bool
 
 /// A line with its number. If `pc`, the next instruction, is on it, what is said of the instruction follows.
 fn put_line(out: &mut Saying, explained: &Explained, pc: u16, number: usize, text: &[u8]) {
-    put!(out; "" {number} "\t" name(text));
+    out.number("", number as u64).name("\t", text);
     if is_line_of(out.lines, pc, number) && pc < explained.image.len() {
         put_noted_at(out, explained, pc)
     } else {
-        put!(out; "\n")
+        out.text("\n");
     }
 }
 

@@ -13,7 +13,7 @@ use geos_verify::{Place as KnownPlace, after, places_of};
 use std::alloc::{AllocError, Global};
 use std::marker::Model;
 
-/// An image, with what is known at each of its places: an image of version 2 gives rows at its key places alone. It is seen as
+/// An image, with what is known at each of its places: an image of version 2 gives rows only at its key places. It is seen as
 /// the image.
 #[derive(Drop)]
 pub(crate) struct Filled<'a> {

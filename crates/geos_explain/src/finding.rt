@@ -15,7 +15,7 @@ pub(crate) struct Meeting {
     pub lost: Way,
 }
 
-/// Why a pointer is not known, where no instruction lost it.
+/// Why a pointer is not known, if no instruction lost it.
 #[derive(Clone, Copy)]
 pub(crate) enum End {
     /// It is not set from the beginning of the routine on, whose entry row does not know it.

@@ -1,4 +1,4 @@
-//! Which call forgets what is to be known at a place, since behind it only what its routine's `out` line says is known; and which
+//! Which call forgets what is to be known at a place, since after it only what its routine's `out` line says is known; and which
 //! instruction moves an index going round a loop.
 
 ghost use Rattle.std.specs.Prelude.{◌≡◌, ◌<◌, Some, IfSome};
@@ -97,7 +97,7 @@ fn comes_lacked(place: &Place, item: Item, marks: &Marks, edge: Edge, point: &Kn
         && has_edge(&point.instr, edge.branch)
 }
 
-/// Whether the instruction at a pc is a call behind which the item is not known, and before which it is, and control comes
+/// Whether the instruction at a pc is a call after which the item is not known, and before which it is, and control comes
 /// on from it so.
 #[tactic(auto, unfolding(crate::specs::Forgotten::forgets_at))]
 fn forgets_at(place: &Place, item: Item, marks: &Marks, from: u16) -> bool
@@ -136,7 +136,7 @@ pub(crate) fn forgetting_call(place: &Place, item: Item) -> Option<u16>
     last
 }
 
-/// A law: a call that is said to forget something is one of the routine; the row before it knows that, the row behind it
+/// A law: a call that is said to forget something is one of the routine; the row before it knows that, the row after it
 /// does not, and from there a way leads to the place on which no row knows it.
 pub fn what_is_said_of_calls_holds()
     ensures { WhatIsSaidOfCallsHolds }
@@ -202,10 +202,13 @@ fn put_moved(out: &mut Saying, place: &Place, w: u8, most: u16, from: u16)
     requires { IsMovedRound (place_of place.now) (Bound w most) w from }
 {
     if let Some(point) = place.image.place(from) {
-        put!(out;
-            "; " [point.instr.opcode.word()] " at" at(from) " changes w" {w} " in each iteration, and w" {w} "<=" {most}
-            " is not known then"
-        )
+        out.text("; ")
+            .text(point.instr.opcode.word())
+            .at(" at", from)
+            .number(" changes w", w as u64)
+            .number(" in each iteration, and w", w as u64)
+            .number("<=", most as u64)
+            .text(" is not known then");
     }
 }
 
@@ -220,7 +223,7 @@ pub(crate) fn put_moved_round(out: &mut Saying, place: &Place, item: Item) {
 }
 
 /// A law: an instruction that is said to move an index going round does; ways lead from it to the place and from there back
-/// to it, and no row on them knows the bound that is wanted.
+/// to it, and no row on them knows the bound that is required.
 #[tactic(auto, using(crate::proofs::Forgetting::said_of_rounds))]
 pub fn what_is_said_of_rounds_holds()
     ensures { WhatIsSaidOfRoundsHolds }

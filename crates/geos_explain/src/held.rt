@@ -8,9 +8,10 @@ ghost use Rattle.geos_explain.specs.Since.{IsSaidOf};
 use crate::lacks::{lacking, put_lacking};
 use crate::place::Place;
 use crate::public::put_missing;
-use crate::saying::{Part, Saying, either};
+use crate::saying::{Saying, either};
 use crate::since::{Since, held_since};
 use crate::uses::unlocking;
+use geos_image::Row;
 use geos_verify::{is_empty, is_of_file, slot_state};
 
 /// Where slots are held that must not be.
@@ -37,7 +38,7 @@ fn is_held_at(which: HeldAt, place: &Place, a: u8) -> bool
 fn put_slots_at(out: &mut Saying, which: HeldAt, place: &Place) {
     for a in 0..4 {
         if is_held_at(which, place, a) {
-            put!(out; slot(a, slot_state(place.row, a)));
+            out.slot("", a, slot_state(place.row, a));
         }
     }
 }
@@ -46,43 +47,40 @@ fn put_slots_at(out: &mut Saying, which: HeldAt, place: &Place) {
 fn put_since(out: &mut Saying, place: &Place, a: u8, since: Since)
     requires { IsSaidOf (place_of place.now) a since }
 {
-    let (words, from, again) = match (since.entry, since.from) {
-        (true, other) => (" the in line", Part::Text(""), other.is_some()),
-        (false, Some(from)) => ("", Part::At(from), since.again),
-        (false, None) => return,
-    };
-    put!(out; "; s" {a} " is locked since" [words] (from) [either(again, " or another place", "")])
+    if since.entry {
+        out.number("; s", a as u64)
+            .text(" is locked since the in line");
+        put_again(out, since.from.is_some())
+    } else if let Some(from) = since.from {
+        out.number("; s", a as u64).at(" is locked since", from);
+        put_again(out, since.again)
+    }
+}
+
+/// Or since another place.
+fn put_again(out: &mut Saying, again: bool) {
+    if again {
+        out.text(" or another place");
+    }
 }
 
 /// What to do with a slot that is locked there, and not borrowed.
 fn put_held_wish(out: &mut Saying, which: HeldAt, place: &Place, a: u8, entry: bool) {
     let state = slot_state(place.row, a);
-    let nothing = Part::Text("");
-    let slot = Part::Numbered(" s", a as u64);
-    let unlocks = Part::Text(unlocking(state));
-    let parts = match which {
-        HeldAt::Return if !state.is_own() => [nothing, nothing, nothing, nothing],
-        HeldAt::Return if place.routine.public => [
-            Part::Text(": "),
-            unlocks,
-            slot,
-            Part::Text(" before the return"),
-        ],
-        HeldAt::Return => [
-            Part::Text(": say it in the out line, or "),
-            unlocks,
-            slot,
-            Part::Text(" before the return"),
-        ],
-        HeldAt::Write if entry && state.is_own() => [
-            Part::Text(": unlock it in the caller"),
-            nothing,
-            nothing,
-            nothing,
-        ],
-        HeldAt::Write => [nothing, nothing, nothing, nothing],
-    };
-    out.put(&parts)
+    if !state.is_own() {
+        return;
+    }
+    match which {
+        HeldAt::Return => {
+            out.text(either(place.routine.public, ": ", ": say it in the out line, or "))
+                .text(unlocking(state))
+                .number(" s", a as u64)
+                .text(" before the return");
+        }
+        HeldAt::Write => {
+            out.text(either(entry, ": unlock it in the caller", ""));
+        }
+    }
 }
 
 /// Since where a slot is locked that must not be, and what to do.
@@ -98,9 +96,9 @@ fn put_since_at(out: &mut Saying, which: HeldAt, place: &Place, a: u8) {
 /// The row does not fit the exit row: slots are still locked, or else it requires more.
 pub(crate) fn put_exit(out: &mut Saying, place: &Place) {
     let exit = &place.routine.exit;
-    let before = out.out.len();
+    let before = out.len();
     put_slots_at(out, HeldAt::Return, place);
-    if out.out.len() == before {
+    if out.len() == before {
         put_lacking(out, place.row, exit);
         return out.put_are(before, " required by the out line, and not known here");
     }
@@ -116,23 +114,32 @@ pub(crate) fn put_exit(out: &mut Saying, place: &Place) {
     )
 }
 
+/// Whether the row has a borrowed slot.
+fn borrows(row: &Row) -> bool {
+    let mut any = false;
+    for a in 0..4 {
+        any = any || !slot_state(row, a).is_own();
+    }
+    any
+}
+
+/// What to do with slots that are locked where the file is written.
+fn writing_wish(row: &Row, one: bool) -> &'static str {
+    if borrows(row) {
+        "write it in a routine that borrows no slot"
+    } else {
+        either(one, "unlock it before", "unlock them before")
+    }
+}
+
 /// The VM file is written while slots have blocks of it. What is borrowed stays locked.
 pub(crate) fn put_written(out: &mut Saying, place: &Place) {
-    let before = out.out.len();
+    let before = out.len();
     put_slots_at(out, HeldAt::Write, place);
     let one = out.is_one(before);
-    let mut borrows = false;
-    for a in 0..4 {
-        borrows = borrows || !slot_state(place.row, a).is_own();
-    }
-    put!(out;
-        [either(one, " is", " are")] " locked where the file is written: "
-        [either(
-            borrows,
-            "write it in a routine that borrows no slot",
-            either(one, "unlock it before", "unlock them before"),
-        )]
-    );
+    out.text(either(one, " is", " are"))
+        .text(" locked where the file is written: ")
+        .text(writing_wish(place.row, one));
     for a in 0..4 {
         put_since_at(out, HeldAt::Write, place, a);
     }

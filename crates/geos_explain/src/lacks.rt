@@ -10,7 +10,7 @@ use crate::saying::Saying;
 use geos_image::{Pointer, Row, SlotState};
 use geos_verify::{is_empty, pointer_fits, slot_fits, slot_state};
 
-/// The bound that is wanted where it is not kept, else that of any word.
+/// The bound that is required if it is not kept, and otherwise that of any word.
 fn lacking_bound(known: u16, wanted: u16) -> u16
     ensures { result ≡ lacking_bound known wanted }
 {
@@ -23,7 +23,7 @@ fn lacking_bounds(known: &[u16; 8], wanted: &[u16; 8]) -> [u16; 8]
     zipped!(lacking_bound; *known, *wanted; r0 s0, r1 s1, r2 s2, r3 s3, r4 s4, r5 s5, r6 s6, r7 s7)
 }
 
-/// The state that is wanted where it is not met, else that of the open row.
+/// The state that is required if it is not met, and otherwise that of the open row.
 fn lacking_slot(known: SlotState, wanted: SlotState) -> SlotState
     ensures { result ≡ lacking_slot known wanted }
 {
@@ -40,7 +40,7 @@ fn lacking_slots(known: &[SlotState; 4], wanted: &[SlotState; 4]) -> [SlotState;
     zipped!(lacking_slot; *known, *wanted; r0 s0, r1 s1, r2 s2, r3 s3)
 }
 
-/// The pointer that is wanted where it is not known, else none.
+/// The pointer that is required if it is not known, and otherwise none.
 fn lacking_pointer(known: Option<Pointer>, wanted: Option<Pointer>) -> Option<Pointer>
     ensures { result ≡ lacking_pointer known wanted }
 {
@@ -60,7 +60,7 @@ fn lacking_pointers(
     zipped!(lacking_pointer; *known, *wanted; r0 s0, r1 s1, r2 s2, r3 s3)
 }
 
-/// Whether the pair is wanted and not known.
+/// Whether the pair is required and not known.
 fn lacking_pair(known: bool, wanted: bool) -> bool
     ensures { result ≡ lacking_pair known wanted }
 {
@@ -73,7 +73,7 @@ fn lacking_pairs(known: &[bool; 6], wanted: &[bool; 6]) -> [bool; 6]
     zipped!(lacking_pair; *known, *wanted; r0 s0, r1 s1, r2 s2, r3 s3, r4 s4, r5 s5)
 }
 
-/// Of the row that is wanted, what the row that is known does not meet; else the open row.
+/// Of the row that is required, what the row that is known does not meet; if it meets all, the open row.
 pub(crate) fn lacking(known: &Row, wanted: &Row) -> Row
     ensures { result ≡ lacking known.now wanted.now }
 {
@@ -85,7 +85,7 @@ pub(crate) fn lacking(known: &Row, wanted: &Row) -> Row
     }
 }
 
-/// Whether the slot is wanted empty and is held.
+/// Whether the slot is required empty and is held.
 fn is_held_unwanted(known: SlotState, wanted: SlotState) -> bool
     ensures { result ≡ is_held_unwanted known wanted }
 {
@@ -97,12 +97,12 @@ pub(crate) fn put_lacking(out: &mut Saying, known: &Row, wanted: &Row) {
     out.put_items(&lacking(known, wanted));
     for a in 0..4 {
         if is_held_unwanted(slot_state(known, a), slot_state(wanted, a)) {
-            put!(out; slot(a, SlotState::Empty));
+            out.slot("", a, SlotState::Empty);
         }
     }
 }
 
-/// A law: a row lacks nothing that another wants exactly where it fits: no item, and no slot is held that is wanted empty.
+/// A law: a row lacks nothing that another requires exactly if it fits: no item, and no slot is held that is required empty.
 pub fn rows_that_fit_lack_nothing()
     ensures { LacksNothingWhereItFits }
 {}

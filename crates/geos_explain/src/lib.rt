@@ -1,35 +1,8 @@
-//! Explanations: the listing of an image with what is known at each instruction, and, where the
+//! Explanations: the listing of an image with what is known at each instruction, and, if the
 //! verifier refuses it, what is wrong at each such place, in plain words; and why no rows are found.
 //!
 //! docs/FORMATS.md has the form.
 #![tactic(auto)]
-
-/// Writes the parts of a sentence: `"text"`, `"text" {number}`, `[text]`, `name(bytes)`, `at(pc)`, `slot(number, state)` and `(part)`.
-macro_rules! put {
-    (@parts $out:expr, [$($parts:tt)*]) => { $out.put(&[$($parts)*]) };
-    (@parts $out:expr, [$($parts:tt)*] $text:literal {$n:expr} $($rest:tt)*) => {
-        put!(@parts $out, [$($parts)* crate::saying::Part::Numbered($text, $n as u64),] $($rest)*)
-    };
-    (@parts $out:expr, [$($parts:tt)*] $text:literal $($rest:tt)*) => {
-        put!(@parts $out, [$($parts)* crate::saying::Part::Text($text),] $($rest)*)
-    };
-    (@parts $out:expr, [$($parts:tt)*] [$text:expr] $($rest:tt)*) => {
-        put!(@parts $out, [$($parts)* crate::saying::Part::Text($text),] $($rest)*)
-    };
-    (@parts $out:expr, [$($parts:tt)*] name($name:expr) $($rest:tt)*) => {
-        put!(@parts $out, [$($parts)* crate::saying::Part::Name($name),] $($rest)*)
-    };
-    (@parts $out:expr, [$($parts:tt)*] at($pc:expr) $($rest:tt)*) => {
-        put!(@parts $out, [$($parts)* crate::saying::Part::At($pc),] $($rest)*)
-    };
-    (@parts $out:expr, [$($parts:tt)*] slot($a:expr, $state:expr) $($rest:tt)*) => {
-        put!(@parts $out, [$($parts)* crate::saying::Part::Slot($a, $state),] $($rest)*)
-    };
-    (@parts $out:expr, [$($parts:tt)*] ($part:expr) $($rest:tt)*) => {
-        put!(@parts $out, [$($parts)* $part,] $($rest)*)
-    };
-    ($out:expr; $($parts:tt)*) => { put!(@parts $out, [] $($parts)*) };
-}
 
 /// The array of what a function gives of the items of two arrays, pair by pair.
 macro_rules! zipped {
@@ -58,6 +31,7 @@ mod notes;
 mod place;
 mod public;
 mod refusals;
+mod refused;
 mod repeated;
 mod routines;
 mod saying;
@@ -79,5 +53,6 @@ pub use forgotten::{what_is_said_of_calls_holds, what_is_said_of_rounds_holds};
 pub use lacks::rows_that_fit_lack_nothing;
 pub use public::rows_without_faults_may_be_public;
 pub use refusals::told_where_refused;
+pub use refused::{Refusal, RefusalList, Register, find_refusals};
 pub use repeated::repeated_is_told_before;
 pub use since::what_is_said_of_a_held_slot_holds;

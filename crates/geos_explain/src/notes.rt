@@ -7,10 +7,11 @@ use geos_image::{Potential, Routine};
 
 /// So many steps, and so many for each that is on a counter.
 pub(crate) fn put_steps(out: &mut Saying, n: u64, coefficients: &[u32; 4]) {
-    put!(out; " " {n});
+    out.number(" ", n);
     for k in 0..coefficients.len() {
         if coefficients[k] != 0 {
-            put!(out; " + " {coefficients[k]} " k" {k});
+            out.number(" + ", coefficients[k] as u64)
+                .number(" k", k as u64);
         }
     }
 }
@@ -24,7 +25,7 @@ fn has_no_coefficient(potential: &Potential) -> bool {
 fn put_potential(out: &mut Saying, potential: &Potential) -> bool {
     let one = potential.constant == 1 && has_no_coefficient(potential);
     put_steps(out, u64::from(potential.constant), &potential.coefficients);
-    put!(out; [either(one, " step", " steps")]);
+    out.text(either(one, " step", " steps"));
     one
 }
 
@@ -32,17 +33,23 @@ fn put_potential(out: &mut Saying, potential: &Potential) -> bool {
 /// does not reach the place, the row may say all that can be said.
 pub(crate) fn put_note(out: &mut Saying, place: &Place) {
     match out.lines.get(usize::from(place.pc)) {
-        Some(_) => put!(out; " ;"),
-        None => put!(out; " ; " name(place.routine.name_text()) " " {place.pc} ":"),
+        Some(_) => {
+            out.text(" ;");
+        },
+        None => {
+            out.name(" ; ", place.routine.name_text())
+                .number(" ", place.pc as u64)
+                .text(":");
+        },
     }
-    let before = out.out.len();
+    let before = out.len();
     if is_reached(place.image, place.marks, place.pc) {
         out.put_items(place.row);
     } else {
-        put!(out; " no path leads here");
+        out.text(" no path leads here");
     }
-    if before < out.out.len() {
-        put!(out; ",");
+    if before < out.len() {
+        out.text(",");
     }
     put_potential(out, place.potential);
 }
@@ -50,15 +57,14 @@ pub(crate) fn put_note(out: &mut Saying, place: &Place) {
 /// The potential is above the budget.
 pub(crate) fn put_budget(out: &mut Saying, routine: &Routine, potential: &Potential) {
     let one = put_potential(out, potential);
-    put!(out;
-        [either(one, " is", " are")] " required from the start of " name(routine.name_text())
-        ", and the budget is " {routine.budget}
-    );
+    out.text(either(one, " is", " are"))
+        .name(" required from the start of ", routine.name_text())
+        .number(", and the budget is ", routine.budget as u64);
 }
 
 /// The least budget that is enough, if one is.
 pub(crate) fn put_budget_wish(out: &mut Saying, potential: &Potential) {
     if has_no_coefficient(potential) {
-        put!(out; ": the least budget is " {potential.constant});
+        out.number(": the least budget is ", potential.constant as u64);
     }
 }

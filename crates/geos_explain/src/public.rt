@@ -9,7 +9,7 @@ use crate::saying::Saying;
 use geos_image::{Routine, Row, SlotState};
 use geos_verify::is_empty;
 
-/// The slot where it is held and not borrowed, else an empty one.
+/// The slot if it is held and not borrowed, and otherwise an empty one.
 fn own_only(state: SlotState) -> SlotState
     ensures { result ≡ own_only state }
 {
@@ -30,7 +30,7 @@ fn own_slots(entry: &Row) -> Row
     own
 }
 
-/// The slot where it is borrowed and known to be marked, else an empty one.
+/// The slot if it is borrowed and known to be marked, and otherwise an empty one.
 fn marked_only(state: SlotState) -> SlotState
     ensures { result ≡ marked_only state }
 {
@@ -93,7 +93,7 @@ fn known_pointers(row: &Row) -> Row
     known
 }
 
-/// The slot where it is borrowed in the first row and not in the second, else an empty one.
+/// The slot if it is borrowed in the first row and not in the second, and otherwise an empty one.
 fn missing_only(entry: SlotState, exit: SlotState) -> SlotState
     ensures { result ≡ missing_only entry exit }
 {
@@ -113,7 +113,7 @@ fn missing_slots(row: &Row, exit: &Row) -> Row
     missing
 }
 
-/// The slot where it is held in the second row and not borrowed in both, else an empty one.
+/// The slot if it is held in the second row and not borrowed in both, and otherwise an empty one.
 fn kept_only(entry: SlotState, exit: SlotState) -> SlotState
     ensures { result ≡ kept_only entry exit }
 {
@@ -168,7 +168,7 @@ fn put_entry_faults(out: &mut Saying, entry: &Row) {
 
 /// How a public routine begins and ends, and what the rows of this one say otherwise.
 pub(crate) fn put_public(out: &mut Saying, routine: &Routine) {
-    put!(out; " a public routine begins and ends with empty or borrowed slots and stale pointers");
+    out.text(" a public routine begins and ends with empty or borrowed slots and stale pointers");
     put_entry_faults(out, &routine.entry);
     put_missing(out, &routine.entry, &routine.exit);
     out.put_also(
@@ -183,7 +183,7 @@ pub(crate) fn put_public(out: &mut Saying, routine: &Routine) {
     )
 }
 
-/// A law: there is nothing to say against the rows of a public routine exactly where a caller from outside may enter and leave by them.
+/// A law: there is nothing to say against the rows of a public routine exactly if a caller from outside may enter and leave by them.
 pub fn rows_without_faults_may_be_public()
     ensures { NoFaultsWhereItMayEnterAndLeave }
 {}

@@ -68,7 +68,7 @@ pub(crate) fn most_told(len: u16) -> usize
     32_768 / (usize::from(len) + 1)
 }
 
-/// The pc at which a rule would be told behind that at so many others; else how many pcs there are.
+/// The pc at which a rule would be told after that at so many others; if there is none, how many pcs there are.
 pub(crate) fn first_untold(refused: &[Option<Rule>], most: usize) -> usize
     ensures { IsFirstUntold refused.now most result }
 {
@@ -95,7 +95,8 @@ pub(crate) fn put_refusal(out: &mut Saying, explained: &Explained, place: &Place
     } else if pc == explained.untold {
         let told = most_told(place.image.len());
         let more = count_all(explained.refused).saturating_sub(told);
-        put!(out; "; .. and " {more} " more from here on\n")
+        out.number("; .. and ", more as u64)
+            .text(" more from here on\n");
     }
 }
 
@@ -117,8 +118,8 @@ pub(crate) fn put_over_budget(out: &mut Saying, within: &ExplainedRoutine, pc: u
     }
 }
 
-/// A law: a rule is told at a place exactly where it is the lowest that refuses it, but for the rule on the budget, and for that on
-/// empty slots where it is told before.
+/// A law: a rule is told at a place exactly if it is the lowest that refuses it, but for the rule on the budget, and for that on
+/// empty slots if it is told before.
 pub fn told_where_refused()
     ensures { ToldWhereRefused }
 {}

@@ -1,4 +1,4 @@
-//! Which refusals are told once: that a pointer leads into an empty slot, where that comes about, and not at each instruction behind.
+//! Which refusals are told once: that a pointer leads into an empty slot, where that comes about, and not at each later instruction.
 
 ghost use Rattle.std.specs.Prelude.{◌≡◌, ◌<◌, ◌↔◌, true, IfOk, length, not};
 ghost use Rattle.geos_explain.specs.Repeated.{brings, names_empty_slot, ComesFromTold, IsRepeated, IsToldOnce, TellsOnce};

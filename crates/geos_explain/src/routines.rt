@@ -40,7 +40,7 @@ pub(crate) fn place_at<'a>(within: &ExplainedRoutine<'a>, pc: u16) -> Place<'a>
     }
 }
 
-/// Whether something is so where it is wanted, and is not so where it is not.
+/// Whether something is so if it is to be, and is not so if it is not to be.
 pub(crate) fn agrees(wanted: bool, is: bool) -> bool
     ensures { result ≡ agrees wanted is }
 {
@@ -69,7 +69,7 @@ pub(crate) fn is_inside(place: &Place, pc: u16) -> bool
     )
 }
 
-/// The pc that was found before, or else this one where something is so.
+/// The pc that was found before, or otherwise this one if something is so.
 pub(crate) fn first_or(first: Option<u16>, pc: u16, here: bool) -> Option<u16>
     ensures { result ≡ first_or first pc here }
 {

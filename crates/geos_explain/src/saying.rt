@@ -5,31 +5,13 @@ use geos_listing::{put_items, state_word};
 use geos_text::put_numbered;
 use std::alloc::{AllocError, Global};
 
-/// A part of a sentence.
-#[derive(Clone, Copy)]
-pub(crate) enum Part<'a> {
-    /// Words.
-    Text(&'a str),
-    /// Words, and a number after them.
-    Numbered(&'a str, u64),
-    /// A name.
-    Name(&'a [u8]),
-    /// The instruction at a pc, by its line, or without a text by the pc.
-    At(u16),
-    /// Words, and an instruction after them.
-    Placed(&'a str, u16),
-    /// A target, by its line, or without a text by its label in the listing.
-    Label(u16),
-    /// A slot, and what it holds.
-    Slot(u8, SlotState),
-}
-
 /// One text if there is one thing, and otherwise the other.
 pub(crate) fn either(one: bool, single: &'static str, several: &'static str) -> &'static str {
     if one { single } else { several }
 }
 
-/// What was written so far. After an allocation was refused, only that counts.
+/// What was written so far. After an allocation was refused, only that counts. Each method that writes returns the saying, so that the parts
+/// of a sentence are a chain of calls.
 #[derive(Drop)]
 pub(crate) struct Saying<'a> {
     pub out: Vec<u8>,
@@ -58,54 +40,62 @@ impl<'a> Saying<'a> {
         }
     }
 
+    /// How many bytes were written.
+    pub fn len(&self) -> usize {
+        self.out.len()
+    }
+
     /// Something was written, or an allocation was refused.
     pub fn note(&mut self, done: Result<(), AllocError>) {
         self.refused = self.refused || done.is_err();
     }
 
-    /// Writes words, a number, and the word or number of a slot.
-    fn put_number(&mut self, words: &str, number: u64) {
-        let done = put_numbered(&mut self.out, words, number);
-        self.note(done);
+    /// Writes words.
+    pub fn text(&mut self, words: &str) -> &mut Saying<'a> {
+        self.name(words, b"")
     }
 
-    fn put_bytes(&mut self, bytes: &[u8]) {
-        let done = self.out.extend_from_slice(bytes);
+    /// Writes words, and a number after them.
+    pub fn number(&mut self, words: &str, number: u64) -> &mut Saying<'a> {
+        let done = put_numbered(&mut self.out, words, number);
         self.note(done);
+        self
+    }
+
+    /// Writes words, and a name after them.
+    pub fn name(&mut self, words: &str, name: &[u8]) -> &mut Saying<'a> {
+        let done = put_named(&mut self.out, words, name);
+        self.note(done);
+        self
     }
 
     /// Writes the line of an instruction, or without a text its pc after the words.
     fn put_pc(&mut self, pc: u16, words: &str) {
-        match self.lines.get(usize::from(pc)) {
-            Some(line) => self.put_number(" line ", *line as u64),
-            None => self.put_number(words, pc as u64),
-        }
+        let done = match self.lines.get(usize::from(pc)) {
+            Some(line) => put_numbered(&mut self.out, " line ", *line as u64),
+            None => put_numbered(&mut self.out, words, pc as u64),
+        };
+        self.note(done)
     }
 
-    fn put_part(&mut self, part: Part) {
-        match part {
-            Part::Text(text) => self.put_bytes(text.as_bytes()),
-            Part::Numbered(text, n) => self.put_number(text, n),
-            Part::Name(name) => self.put_bytes(name),
-            Part::At(pc) => self.put_pc(pc, " "),
-            Part::Placed(text, pc) => {
-                self.put_bytes(text.as_bytes());
-                self.put_pc(pc, " ")
-            }
-            Part::Label(pc) => self.put_pc(pc, " L"),
-            Part::Slot(a, state) => {
-                self.put_number(" s", a as u64);
-                self.put_bytes(b"=");
-                self.put_bytes(state_word(state).as_bytes());
-            }
-        }
+    /// Writes words, and an instruction after them, by its line, or without a text by its pc.
+    pub fn at(&mut self, words: &str, pc: u16) -> &mut Saying<'a> {
+        self.text(words);
+        self.put_pc(pc, " ");
+        self
     }
 
-    /// Writes the parts, one after another.
-    pub fn put(&mut self, parts: &[Part]) {
-        for part in parts {
-            self.put_part(*part);
-        }
+    /// Writes a target, by its line, or without a text by its label in the listing.
+    pub fn label(&mut self, pc: u16) -> &mut Saying<'a> {
+        self.put_pc(pc, " L");
+        self
+    }
+
+    /// Writes words, and after them a slot and what it holds.
+    pub fn slot(&mut self, words: &str, a: u8, state: SlotState) -> &mut Saying<'a> {
+        self.text(words);
+        self.number(" s", a as u64);
+        self.name("=", state_word(state).as_bytes())
     }
 
     /// Writes the items of a row.
@@ -130,20 +120,26 @@ impl<'a> Saying<'a> {
     /// Writes that the items from a place on are something, or the one is.
     pub fn put_are(&mut self, before: usize, what: &str) {
         let verb = either(self.is_one(before), " is", " are");
-        self.put(&[Part::Text(verb), Part::Text(what)]);
+        self.name(verb, what.as_bytes());
     }
 
     /// Writes the items of a row after a semicolon, where they are, and that they are something; nothing for the open row.
     pub fn put_also(&mut self, row: &Row, place: &str, what: &str) {
-        let start = self.out.len();
-        self.put_bytes(b";");
-        let before = self.out.len();
+        let start = self.len();
+        self.text(";");
+        let before = self.len();
         self.put_items(row);
-        if self.out.len() == before {
+        if self.len() == before {
             self.out.truncate(start);
-            return;
+        } else {
+            let verb = either(self.is_one(before), " is", " are");
+            self.text(place).name(verb, what.as_bytes());
         }
-        let verb = either(self.is_one(before), " is", " are");
-        self.put(&[Part::Text(place), Part::Text(verb), Part::Text(what)]);
     }
+}
+
+/// Appends words, and a name after them.
+fn put_named(out: &mut Vec<u8>, words: &str, name: &[u8]) -> Result<(), AllocError> {
+    out.extend_from_slice(words.as_bytes())?;
+    out.extend_from_slice(name)
 }

@@ -19,9 +19,9 @@ use geos_verify::{Place as KnownPlace, has_edge, is_empty, slot_state};
 pub(crate) struct Since {
     /// One leads from the routine's beginning, whose entry row has it held.
     pub entry: bool,
-    /// One leads from behind the instruction at this pc; of several it is the last in front of the place, else the first.
+    /// One leads from the instruction at this pc; of several it is the last before the place, and otherwise the first.
     pub from: Option<u16>,
-    /// Others lead from behind another instruction.
+    /// Others lead from another instruction.
     pub again: bool,
 }
 
@@ -32,7 +32,7 @@ fn holds(row: &Row, a: u8) -> bool
     !is_empty(slot_state(row, a))
 }
 
-/// Whether control comes along the edge of the instruction as it comes to the place, and the slot is held behind it.
+/// Whether control comes along the edge of the instruction as it comes to the place, and the slot is held after it.
 fn keeps_along(place: &Place, a: u8, edge: Edge, point: &KnownPlace) -> bool
     requires { slice_get (places place.now.image.now) edge.from ≡ Some point.now }
     ensures { result ≡ keeps_along (place_of place.now) a edge point.now }
@@ -116,7 +116,7 @@ fn fills_at(place: &Place, a: u8, marks: &Marks, from: u16) -> bool
     }
 }
 
-/// Of such an instruction that is named, if one is, and one more, the one that is named: the last in front of the pc, else the first.
+/// Of such an instruction that is named, if one is, and one more, the one that is named: the last before the pc, and otherwise the first.
 fn named_of(pc: u16, named: Option<u16>, from: u16) -> u16
     ensures { result ≡ named_of pc named from }
 {
@@ -168,9 +168,9 @@ pub(crate) fn held_since(place: &Place, a: u8) -> Since
     since
 }
 
-/// A law: where an instruction is named since which a slot is held, it is empty before it and held behind it, and from there a
-/// way leads to the place on which it is held all along; where another one is said to be, there is another such; and where the
-/// `in` line is named, the entry row has the slot held, and such a way leads there from the routine's beginning. Where the `in`
+/// A law: if an instruction is named since which a slot is held, it is empty before it and held after it, and from there a
+/// way leads to the place on which it is held all along; if another one is said to be, there is another such; and if the
+/// `in` line is named, the entry row has the slot held, and such a way leads there from the routine's beginning. If the `in`
 /// line is not named, or no other place is said to be, it is not so.
 #[tactic(auto, using(crate::proofs::Holding::said_of_slots))]
 pub fn what_is_said_of_a_held_slot_holds()

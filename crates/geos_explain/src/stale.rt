@@ -10,7 +10,7 @@ use crate::filled::Filled;
 use crate::finding::{End, Finding, Loss, Meeting};
 use crate::forgotten::Item;
 use crate::place::Place;
-use crate::saying::{Part, Saying};
+use crate::saying::{Saying, either};
 use crate::trace::traced;
 use crate::ways::{Followed, Way, forgets, is_stale, sets, with_hint};
 use geos_flow::end_of;
@@ -32,12 +32,17 @@ fn refused_on(image: &Filled, way: Way) -> Option<u16>
     }
 }
 
-/// Where a way comes from, and whether by a refusal.
-fn way_parts(place: &Place, way: Way) -> (&'static str, Part<'static>) {
-    match (refused_on(place.image, way), way) {
-        (Some(from), _) => (" the refusal at", Part::At(from)),
-        (None, Way::Entry) => (" the in line", Part::Text("")),
-        (None, Way::Along(edge)) => ("", Part::At(edge.from)),
+/// Words, where a way comes from, and whether by a refusal.
+fn put_way(out: &mut Saying, place: &Place, words: &str, way: Way) {
+    out.text(words);
+    match way {
+        Way::Entry => {
+            out.text(" the in line");
+        }
+        Way::Along(edge) => {
+            let refused = refused_on(place.image, way).is_some();
+            out.at(either(refused, " the refusal at", ""), edge.from);
+        }
     }
 }
 
@@ -58,56 +63,60 @@ fn put_use_loss(out: &mut Saying, slot: SlotUse, p: u8) {
         SlotUse::MovesGroup => " moves items, and its item may be one: fetch p",
         _ => " leaves it stale: fetch p",
     };
-    put!(out; [words] "" {p} " again")
+    out.text(words).number("", p as u64).text(" again");
 }
 
 /// It moved chunks of slot a, and the pointer leads into slot b.
 fn put_move_loss(out: &mut Saying, p: u8, a: u8, b: u8) {
-    put!(out;
-        " may have moved its chunk, since s" {a} " and s" {b} " may have one block: fetch p" {p}
-        " again, or tell the slots apart first by SNE s" {a} " s" {b}
-    )
+    out.number(" may have moved its chunk, since s", a as u64)
+        .number(" and s", b as u64)
+        .number(" may have one block: fetch p", p as u64)
+        .number(" again, or tell the slots apart first by SNE s", a as u64)
+        .number(" s", b as u64);
 }
 
-/// What helps if the instruction was to set the pointer and was refused, and went to a pc. At a return nothing does but to do without the
-/// pointer; if other instructions are on the path from there, it is to be fetched after them.
-fn refusal_cure(
-    place: &Place,
-    to: usize,
-    meeting: Option<Meeting>,
-) -> (&'static str, Part<'static>) {
-    let another = ("give it another label", Part::Text(""));
+/// The instruction was to set the pointer and was refused, and went to a pc; what helps. If other instructions are on the path from there, it
+/// is to be fetched after them.
+fn put_refusal_cure(out: &mut Saying, place: &Place, to: usize, meeting: Option<Meeting>) {
     match meeting {
-        None => if to == usize::from(place.pc) {
-            another
-        } else {
-            ("fetch it again before this", Part::Text(""))
-        },
-        Some(m) => match m.lost {
-            Way::Along(lost) if to != usize::from(m.to) => (
-                "fetch it again after",
-                Part::At(lost.from),
-            ),
-            _ => another,
-        },
+        None if to != usize::from(place.pc) => {
+            out.text("fetch it again before this");
+        }
+        Some(
+            Meeting {
+                to: end,
+                lost: Way::Along(lost),
+                ..
+            },
+        ) if to != usize::from(end) => {
+            out.at("fetch it again after", lost.from);
+        }
+        _ => {
+            out.text("give it another label");
+        }
     }
 }
 
-/// The instruction was to set the pointer and was refused, and went to a pc; and what helps.
+/// The instruction was to set the pointer and was refused, and went to a pc; and what helps. At a return nothing does but to do without the
+/// pointer.
 fn put_own_refusal(out: &mut Saying, place: &Place, p: u8, to: usize, meeting: Option<Meeting>) {
+    out.text(" does not set it if it is refused: ");
     if let Opcode::Ret = place.i.opcode {
-        return put!(out;
-            " does not set it if it is refused: leave p" {p}
-            " out of the out line, and fetch it after the CALL of this routine"
+        out.number("leave p", p as u64).text(
+            " out of the out line, and fetch it after the CALL of this routine",
         );
+    } else {
+        put_refusal_cure(out, place, to, meeting)
     }
-    let (cure, after) = refusal_cure(place, to, meeting);
-    put!(out; " does not set it if it is refused: " [cure] (after))
 }
 
 /// A CALL lost the pointer, which leads so before it.
 fn put_call_loss(out: &mut Saying, place: &Place, item: Item, r: u16, row: &Row) {
-    put!(out; " leaves only what the out line of " name(name_at(place.image, r)) " says");
+    out.name(
+        " leaves only what the out line of ",
+        name_at(place.image, r),
+    )
+    .text(" says");
     put_kept_wish(out, place, item, r, row)
 }
 
@@ -132,7 +141,7 @@ fn put_lost_by(out: &mut Saying, place: &Place, p: u8, loss: Loss, meeting: Opti
     let edge = loss.edge;
     if let Some(point) = place.image.place(edge.from) {
         let i = &point.instr;
-        put!(out; "; " [i.opcode.word()] " at" at(edge.from));
+        out.text("; ").text(i.opcode.word()).at(" at", edge.from);
         if edge.branch && sets(i, i.opcode.uses().pointer, p) {
             put_own_refusal(out, place, p, end_of(edge, i), meeting)
         } else {
@@ -142,62 +151,57 @@ fn put_lost_by(out: &mut Saying, place: &Place, p: u8, loss: Loss, meeting: Opti
     }
 }
 
+/// Another label for the instruction whose refusal does not bring the pointer, if one does not.
+fn put_other_label(out: &mut Saying, place: &Place, meeting: Option<Meeting>) {
+    if let Some(m) = meeting
+        && let Some(from) = refused_on(place.image, m.lost)
+    {
+        out.at(", or give", from).text(" another label");
+    }
+}
+
 /// The pointer is not known from the routine's beginning on; a caller that is a routine may bring it.
 fn put_unset(out: &mut Saying, place: &Place, p: u8, meeting: Option<Meeting>) {
-    let label = match meeting {
-        Some(m) => refused_on(place.image, m.lost),
-        None => None,
-    };
-    let (give, from, another) = match label {
-        Some(from) => (", or give", Part::At(from), " another label"),
-        None => ("", Part::Text(""), ""),
-    };
-    let (say, pointer, line) = if place.routine.public {
-        ("", Part::Text(""), "")
-    } else {
-        (
-            ", or say",
-            Part::Numbered(" p", p as u64),
-            " in the in line",
-        )
-    };
-    put!(out;
-        "; p" {p} " is not set on the path from the start of the routine: fetch it first" [give] (from) [another]
-        [say] (pointer) [line]
-    )
+    out.number("; p", p as u64).text(
+        " is not set on the path from the start of the routine: fetch it first",
+    );
+    put_other_label(out, place, meeting);
+    if !place.routine.public {
+        out.number(", or say p", p as u64).text(" in the in line");
+    }
 }
 
 /// No path leads to a pc, or here.
 fn put_unreached(out: &mut Saying, place: &Place, to: u16) {
-    let (words, there) = if to == place.pc {
-        (" here", Part::Text(""))
+    if to == place.pc {
+        out.text("; no path leads here: take it out");
     } else {
-        (" to", Part::At(to))
-    };
-    put!(out; "; no path leads" [words] (there) ": take it out")
+        out.at("; no path leads to", to).text(": take it out");
+    }
 }
 
 /// Each path to a pc brings the pointer, which is not known there.
 fn put_merged(out: &mut Saying, p: u8, to: u16) {
-    put!(out;
-        "; p" {p} " is known on each path to" at(to) ", and not there, as if it leads into two slots: fetch it again"
-    )
+    out.number("; p", p as u64)
+        .at(" is known on each path to", to)
+        .text(", and not there, as if it leads into two slots: fetch it again");
 }
 
 /// A way brings the pointer into an empty slot.
 fn put_nowhere_by(out: &mut Saying, place: &Place, p: u8, way: Way, slot: u8) {
-    let (words, from) = way_parts(place, way);
-    let (cure, number, last) = match way {
-        Way::Entry => (
-            "say in the in line what",
-            Part::Numbered(" s", slot as u64),
-            " has, or fetch the pointer first",
-        ),
-        Way::Along(_) => ("fetch it again", Part::Text(""), ""),
-    };
-    put!(out;
-        "; from" [words] (from) " p" {p} " leads into s" {slot} ", which is empty there: " [cure] (number) [last]
-    )
+    put_way(out, place, "; from", way);
+    out.number(" p", p as u64)
+        .number(" leads into s", slot as u64)
+        .text(", which is empty there: ");
+    match way {
+        Way::Entry => {
+            out.number("say in the in line what s", slot as u64)
+                .text(" has, or fetch the pointer first");
+        }
+        Way::Along(_) => {
+            out.text("fetch it again");
+        }
+    }
 }
 
 /// Why the pointer is not known, if no instruction is found that lost it.
@@ -205,7 +209,9 @@ fn put_end(out: &mut Saying, place: &Place, p: u8, found: Finding)
     requires { IsFinding (place_of place.now) p found }
 {
     match found.end {
-        None => put!(out; ": fetch it again"),
+        None => {
+            out.text(": fetch it again");
+        }
         Some(End::Unset) => put_unset(out, place, p, found.meeting),
         Some(End::Unreached(to)) => put_unreached(out, place, to),
         Some(End::Merged(to)) => put_merged(out, p, to),
@@ -215,14 +221,14 @@ fn put_end(out: &mut Saying, place: &Place, p: u8, found: Finding)
 
 /// Ways meet of which one brings the pointer and another does not.
 fn put_meeting(out: &mut Saying, place: &Place, p: u8, m: Meeting) {
-    let (at, to) = if m.to == place.pc {
-        ("", Part::Text(""))
+    if m.to == place.pc {
+        out.text(";");
     } else {
-        (" at", Part::At(m.to))
-    };
-    let (known, from) = way_parts(place, m.known);
-    let (lost, other) = way_parts(place, m.lost);
-    put!(out; ";" [at] (to) " p" {p} " is known from" [known] (from) ", and not from" [lost] (other))
+        out.at("; at", m.to);
+    }
+    out.number(" p", p as u64);
+    put_way(out, place, " is known from", m.known);
+    put_way(out, place, ", and not from", m.lost)
 }
 
 /// Where ways meet of which one brings the pointer and another does not, and by what the pointer was lost, or else why it is not known.
@@ -246,7 +252,7 @@ pub(crate) fn put_traced(out: &mut Saying, place: &Place, pointer: Option<u8>) {
 }
 
 /// The pointers that the instruction uses, each once, of which the row knows nothing.
-fn stale_used(place: &Place) -> [Option<u8>; 2] {
+pub(crate) fn stale_used(place: &Place) -> [Option<u8>; 2] {
     let i = place.i;
     let first = match uses_at(i).pointer {
         PointerUse::Copies if i.a != i.b && is_stale(pointer_at(place.row, i.a)) => Some(i.a),
@@ -264,12 +270,12 @@ fn stale_used(place: &Place) -> [Option<u8>; 2] {
 pub(crate) fn put_stale(out: &mut Saying, place: &Place) {
     let [first, second] = stale_used(place);
     if let Some(p) = first {
-        put!(out; " p" {p})
+        out.number(" p", p as u64);
     }
     if let Some(p) = second {
-        put!(out; " p" {p})
+        out.number(" p", p as u64);
     }
-    put!(out; " may be stale here");
+    out.text(" may be stale here");
     put_traced(out, place, first);
     put_traced(out, place, second)
 }

@@ -11,26 +11,31 @@ fn put_asked(out: &mut Saying, asked: &Asked, p: &Potential) {
     let left = asked.left(p);
     if asked.steps <= left {
         put_steps(out, asked.steps, &asked.coefficients);
-        put!(out; " steps are required from here, and");
+        out.text(" steps are required from here, and");
         put_steps(out, left, &p.coefficients);
-        return put!(out; " are left");
+        out.text(" are left");
+        return;
     }
-    put!(out;
-        " " {asked.steps} [either(asked.steps == 1, " step is", " steps are")] " required from here, and " {left}
-        [either(left == 1, " is", " are")] " left"
-    );
+    out.number(" ", asked.steps)
+        .text(either(asked.steps == 1, " step is", " steps are"))
+        .number(" required from here, and ", left)
+        .text(either(left == 1, " is", " are"))
+        .text(" left");
 }
 
 /// What is said if neither edge is unpaid: a return takes a step; after a call no counter may pay that the routine touches.
 fn put_last(out: &mut Saying, place: &Place) {
     match place.i.opcode {
-        Opcode::Ret => put!(out; " a return takes a step, and none is left"),
+        Opcode::Ret => {
+            out.text(" a return takes a step, and none is left");
+        },
         Opcode::Call => if let Some(next) = place.image.point(place.pc + 1) {
             let callee = place.image.routine(place.i.imm);
-            put!(out; " " name(callee.name_text()) " touches a counter that pays after the call:");
+            out.name(" ", callee.name_text())
+                .text(" touches a counter that pays after the call:");
             for k in 0..4 {
                 if next.potential.coefficients[k] != 0 {
-                    put!(out; " k" {k});
+                    out.number(" k", k as u64);
                 }
             }
         },

@@ -57,7 +57,7 @@ fn nowhere_or(tracing: &Tracing, way: Way, to: u16, end: End) -> End
     }
 }
 
-/// No instruction that goes on to a pc can have lost the pointer: no way to it lacks it, where each brings it or there is none, or
+/// No instruction that goes on to a pc can have lost the pointer: no way to it lacks it, if each brings it or there is none, or
 /// the caller does not bring it, or control does not come from where it is lacking.
 fn end_at(tracing: &Tracing, ways: FirstWays) -> Option<End>
     requires { AreWays (place_of tracing.now.place.now) tracing.now.p ways }

@@ -7,7 +7,7 @@ ghost use Rattle.geos_explain.specs.Uses.{nowhere_only, leading_nowhere};
 
 use crate::forgotten::Item;
 use crate::place::Place;
-use crate::saying::{Part, Saying, either};
+use crate::saying::{Saying, either};
 use crate::ways::sets;
 use geos_image::{Instr, Opcode, Pointer, Row, SlotState};
 use geos_opcodes::{Kind, Offset, PointerUse, SlotUse, Width};
@@ -43,12 +43,11 @@ pub(crate) fn leading_nowhere(row: &Row) -> Row
 
 /// The pointers of the row that lead into empty slots.
 pub(crate) fn put_nowhere(out: &mut Saying, row: &Row) {
-    let before = out.out.len();
+    let before = out.len();
     out.put_items(&leading_nowhere(row));
-    put!(out;
-        [either(out.is_one(before), " leads into an empty slot", " lead into empty slots")]
-        ": lock a block into the slot first, or say in the in line what the slot has"
-    );
+    let one = out.is_one(before);
+    out.text(either(one, " leads into an empty slot", " lead into empty slots"))
+        .text(": lock a block into the slot first, or say in the in line what the slot has");
 }
 
 /// The slot that a pointer leads into.
@@ -80,10 +79,11 @@ pub(crate) fn mark_word(state: SlotState) -> &'static str {
 pub(crate) fn put_unmarked(out: &mut Saying, i: &Instr, row: &Row) {
     let a = changed_slot(i, row);
     let state = slot_state(row, a);
-    put!(out;
-        slot(a, state) " is changed here, and may not be marked: " [mark_word(state)] " s" {a}
-        " before this marks it"
-    );
+    out.slot("", a, state)
+        .text(" is changed here, and may not be marked: ")
+        .text(mark_word(state))
+        .number(" s", a as u64)
+        .text(" before this marks it");
 }
 
 /// What empties a slot.
@@ -99,21 +99,15 @@ pub(crate) fn unlocking(state: SlotState) -> &'static str {
 /// A block is locked into a slot that has one.
 pub(crate) fn put_held(out: &mut Saying, i: &Instr, row: &Row) {
     let state = slot_state(row, i.a);
-    let (words, first, last) = if state.is_own() {
-        (
-            " is locked here, and an empty slot is required: use another slot, or ",
-            Part::Numbered(" s", i.a as u64),
-            " first",
-        )
+    out.slot("", i.a, state);
+    if state.is_own() {
+        out.text(" is locked here, and an empty slot is required: use another slot, or ")
+            .text(unlocking(state))
+            .number(" s", i.a as u64)
+            .text(" first");
     } else {
-        (
-            " is borrowed from the caller, and an empty slot is required: use another slot",
-            Part::Text(""),
-            "",
-        )
-    };
-    let own = either(state.is_own(), unlocking(state), "");
-    put!(out; slot(i.a, state) [words] [own] (first) [last])
+        out.text(" is borrowed from the caller, and an empty slot is required: use another slot");
+    }
 }
 
 /// A block of this kind is required.
@@ -141,14 +135,14 @@ fn marking(state: SlotState) -> &'static str {
 /// Two slots do not have blocks of one kind, and what helps.
 fn put_compared(out: &mut Saying, i: &Instr, row: &Row) {
     let (state, other) = (slot_state(row, i.a), slot_state(row, i.b));
-    put!(out;
-        slot(i.a, state) slot(i.b, other) " are compared here, and blocks of one kind are required: "
-        [either(
+    out.slot("", i.a, state)
+        .slot("", i.b, other)
+        .text(" are compared here, and blocks of one kind are required: ")
+        .text(either(
             is_empty(state) || is_empty(other),
             "lock them first",
             "blocks of two kinds differ, so leave SNE out",
-        )]
-    );
+        ));
 }
 
 /// What the instruction requires of a slot that has a block of another kind, and what helps.
@@ -188,7 +182,8 @@ pub(crate) fn put_slot(out: &mut Saying, i: &Instr, row: &Row) -> bool {
         return true;
     }
     if is_empty(state) {
-        put!(out; " s" {i.a} " is empty here, and a locked block is required");
+        out.number(" s", i.a as u64)
+            .text(" is empty here, and a locked block is required");
         return false;
     }
     let (words, kind, then, word) = wish(slot, state);
@@ -196,7 +191,12 @@ pub(crate) fn put_slot(out: &mut Saying, i: &Instr, row: &Row) -> bool {
         SlotUse::Unlocks(_) => either(state.is_own(), " unlocks it", ""),
         _ => "",
     };
-    put!(out; slot(i.a, state) [words] [kind] [then] [word] [does]);
+    out.slot("", i.a, state)
+        .text(words)
+        .text(kind)
+        .text(then)
+        .text(word)
+        .text(does);
     true
 }
 
@@ -246,36 +246,43 @@ pub(crate) fn past_at(i: &Instr, row: &Row) -> Past
 
 /// So many bytes are required at a pointer, and so many are known.
 fn put_short(out: &mut Saying, p: u8, wanted: u32, least: u16) {
-    put!(out;
-        " " {wanted} [either(wanted == 1, " byte is", " bytes are")] " required at p" {p} ", and " {least}
-        [either(least == 1, " is", " are")] " known"
-    )
+    out.number(" ", wanted as u64)
+        .text(either(wanted == 1, " byte is", " bytes are"))
+        .number(" required at p", p as u64)
+        .number(", and ", least as u64)
+        .text(either(least == 1, " is", " are"))
+        .text(" known");
+}
+
+/// What index is low enough for so many bytes, if one is.
+fn put_low_index(out: &mut Saying, i: &Instr, wide: u16, least: u16) {
+    if wide <= least {
+        out.number(" w", i.c as u64)
+            .number("<=", (least - wide) as u64)
+            .text(" is required, since ");
+    } else {
+        out.text(" no index is low enough, since ");
+    }
+}
+
+/// What is known of an index.
+fn put_index(out: &mut Saying, w: u8, most: u16) {
+    if most == u16::MAX {
+        out.number(", and nothing is known of w", w as u64);
+    } else {
+        out.number(", and w", w as u64)
+            .number("<=", most as u64)
+            .text(" is known");
+    }
 }
 
 /// An index may be too high for the bytes at its pointer.
 fn put_high(out: &mut Saying, i: &Instr, most: u16, wide: u16, least: u16) {
-    let (index, bound, verb) = if wide <= least {
-        (
-            Part::Numbered(" w", i.c as u64),
-            Part::Numbered("<=", (least - wide) as u64),
-            " is required, since ",
-        )
-    } else {
-        (
-            Part::Text(" no index"),
-            Part::Text(""),
-            " is low enough, since ",
-        )
-    };
-    let (nothing, known, is) = if most == u16::MAX {
-        (" nothing is known of", Part::Text(""), "")
-    } else {
-        ("", Part::Numbered("<=", most as u64), " is known")
-    };
-    put!(out;
-        (index) (bound) [verb] "" {least} [either(least == 1, " byte is", " bytes are")] " known at p" {i.b}
-        ", and" [nothing] " w" {i.c} (known) [is]
-    )
+    put_low_index(out, i, wide, least);
+    out.number("", least as u64)
+        .text(either(least == 1, " byte is", " bytes are"))
+        .number(" known at p", i.b as u64);
+    put_index(out, i.c, most)
 }
 
 /// It may reach past them.
@@ -323,7 +330,8 @@ fn is_set_within(place: &Place, p: u8) -> bool {
 /// More bytes are to be required where the pointer is set, or in the `in` line that brings it.
 pub(crate) fn put_ask_wish(out: &mut Saying, place: &Place, p: u8, wanted: u32) {
     if wanted >= 65_536 {
-        return put!(out; "; no chunk is so long");
+        out.text("; no chunk is so long");
+        return;
     }
     match pointer_at(&place.routine.entry, p) {
         Some(pointer) if !is_set_within(place, p) => put_say_wish(out, p, pointer.slot, wanted),
@@ -333,22 +341,30 @@ pub(crate) fn put_ask_wish(out: &mut Saying, place: &Place, p: u8, wanted: u32) 
 
 /// So many bytes are to be required in the `in` line.
 fn put_say_wish(out: &mut Saying, p: u8, slot: u8, wanted: u32) {
-    put!(out; "; say p" {p} "=s" {slot} ":" {wanted} " in the in line")
+    out.number("; say p", p as u64)
+        .number("=s", slot as u64)
+        .number(":", wanted as u64)
+        .text(" in the in line");
 }
 
 /// So many bytes are to be required where the pointer is set.
 fn put_set_wish(out: &mut Saying, p: u8, wanted: u32) {
-    put!(out; "; ask for " {wanted} [either(wanted == 1, " byte", " bytes")] " where p" {p} " is set")
+    out.number("; ask for ", wanted as u64)
+        .text(either(wanted == 1, " byte", " bytes"))
+        .number(" where p", p as u64)
+        .text(" is set");
 }
 
 /// A word is to be bounded before the instruction.
 pub(crate) fn put_bounding(out: &mut Saying, w: u8, most: u16) {
-    put!(out; "; CHK w" {w} " " {most} " L before this bounds it")
+    out.number("; CHK w", w as u64)
+        .number(" ", most as u64)
+        .text(" L before this bounds it");
 }
 
 /// Another instruction tests the index.
 fn put_tested(out: &mut Saying, tested: Opcode) {
-    put!(out; ", or " [tested.word()] " tests it")
+    out.text(", or ").text(tested.word()).text(" tests it");
 }
 
 /// What helps there, if a CALL `forgets` what is required, too.

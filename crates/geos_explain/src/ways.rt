@@ -86,7 +86,7 @@ fn empty_slot(row: &Row, p: u8) -> Option<u8>
     }
 }
 
-/// The same of the pointer behind the instruction, on an edge that it has.
+/// The same of the pointer after the instruction, on an edge that it has.
 fn empty_along(image: &Filled, p: u8, edge: Edge, point: &KnownPlace) -> Option<u8>
     requires { slice_get (places image.now) edge.from ≡ Some point.now }
     ensures { result ≡ empty_along image.now p edge point.now }
@@ -112,7 +112,7 @@ pub(crate) fn empty_on(place: &Place, p: u8, way: Way) -> Option<u8>
     }
 }
 
-/// Whether control comes along the edge of the instruction as is asked, and behind it the pointer is known as is asked.
+/// Whether control comes along the edge of the instruction as is asked, and after it the pointer is known as is asked.
 pub(crate) fn is_as_sought(place: &Place, sought: Sought, edge: Edge, point: &KnownPlace) -> bool
     requires { slice_get (places place.now.image.now) edge.from ≡ Some point.now }
     ensures { result ≡ is_as_sought (place_of place.now) sought edge point.now }
@@ -130,7 +130,7 @@ pub(crate) fn is_as_sought(place: &Place, sought: Sought, edge: Edge, point: &Kn
         )
 }
 
-/// The row; where it knows nothing of the pointer, with what is known of it on some way.
+/// The row; if it knows nothing of the pointer, with what is known of it on some way.
 pub(crate) fn with_hint(row: &Row, followed: Followed) -> Row
     ensures { result ≡ with_hint row.now followed }
 {
@@ -199,7 +199,7 @@ impl<'a> Counting for Seeking<'a> {
     }
 }
 
-/// The first way that is sought: from the caller, where the pc is the routine's first, and the caller brings the pointer as is
+/// The first way that is sought: from the caller, if the pc is the routine's first, and the caller brings the pointer as is
 /// asked, or else from an instruction of the routine.
 fn way_to(place: &Place, sought: Sought, to: u16) -> Option<Way>
     requires { to < length place.now.image.now.points }
@@ -233,7 +233,7 @@ pub(crate) fn bringing(place: &Place, p: u8, to: u16) -> Option<Way>
     way_to(place, sought, to)
 }
 
-/// The first way to a pc that does not; where there is none, the first from where control does not come so.
+/// The first way to a pc that does not; if there is none, the first from where control does not come so.
 pub(crate) fn losing(place: &Place, p: u8, to: u16) -> Option<Way>
     requires { to < length place.now.image.now.points }
     ensures { FindsWay (place_of place.now) (λ way. IsWay (place_of place.now) p false way to) result }

@@ -12,7 +12,7 @@ use crate::lacks::{as_marked, put_lacking};
 use crate::led::is_reached;
 use crate::place::Place;
 use crate::public::put_public;
-use crate::saying::{Part, Saying};
+use crate::saying::Saying;
 use crate::stale::put_stale;
 use crate::steps::put_unpaid;
 use crate::uses::{
@@ -27,21 +27,20 @@ fn put_leaves(out: &mut Saying, place: &Place) {
     let start = u32::from(place.image.start(place.r));
     let next = u32::from(place.pc) + 1;
     if falls_through(place.i.opcode) && !has_place(start, place.routine, next) {
-        put!(out; " control passes the end of the routine: end it by RET or JMP")
+        out.text(" control passes the end of the routine: end it by RET or JMP");
     } else {
-        put!(out;
-            (Part::Label(place.i.target))
-            " is outside of this routine: name a label of this routine, or CALL the other one"
-        )
+        out.label(place.i.target).text(
+            " is outside of this routine: name a label of this routine, or CALL the other one",
+        );
     }
 }
 
 /// The row requires more than the routine's entry row says, or the routine is public and requires or leaves what a caller from outside
 /// does not have.
 fn put_entry(out: &mut Saying, place: &Place) {
-    let before = out.out.len();
+    let before = out.len();
     put_lacking(out, &place.routine.entry, place.row);
-    if out.out.len() == before {
+    if out.len() == before {
         return put_public(out, place.routine);
     }
     out.put_are(before, " required here, and not known from the in line")
@@ -49,38 +48,27 @@ fn put_entry(out: &mut Saying, place: &Place) {
 
 /// The routine that a CALL names is not before that of the place.
 fn put_later(out: &mut Saying, place: &Place, callee: &Routine) {
-    let name = Part::Name(callee.name_text());
-    let nothing = Part::Text("");
-    let back = calls_to(place.image, place.i.imm, place.r);
-    let (words, cure, moved, last) = if place.i.imm == place.r {
-        (
-            " calls itself, which no routine may: use a loop",
-            "",
-            nothing,
-            "",
-        )
-    } else if back {
-        (
-            LATER,
-            "the two call each other, so take one of the CALLs out",
-            nothing,
-            "",
-        )
+    out.name(" ", callee.name_text());
+    if place.i.imm == place.r {
+        out.text(" calls itself, which no routine may: use a loop");
+        return;
+    }
+    out.text(" comes after this routine, and a CALL names an earlier one: ");
+    if calls_to(place.image, place.i.imm, place.r) {
+        out.text("the two call each other, so take one of the CALLs out");
     } else {
-        (LATER, "move ", name, " before this routine")
-    };
-    put!(out; " " (name) [words] [cure] (moved) [last])
+        out.name("move ", callee.name_text())
+            .text(" before this routine");
+    }
 }
-
-/// Such a routine.
-const LATER: &str = " comes after this routine, and a CALL names an earlier one: ";
 
 /// The entry row of the routine that a CALL names requires more than the row says.
 fn put_lacking_at_call(out: &mut Saying, place: &Place, callee: &Routine) {
-    let before = out.out.len();
+    let before = out.len();
     put_lacking(out, place.row, &callee.entry);
     out.put_are(before, " required by ");
-    put!(out; name(callee.name_text()) ", and not known here")
+    out.name("", callee.name_text())
+        .text(", and not known here");
 }
 
 /// The routine that a CALL names is not before that of the place, or its entry row requires more than the row says; and what helps.
@@ -107,14 +95,14 @@ fn put_along(out: &mut Saying, place: &Place, branch: bool, to: u16) -> bool {
     let Some(next) = place.image.place(to) else {
         return false;
     };
-    let before = out.out.len();
+    let before = out.len();
     let row = after(place.image.image(), place.pc, place.row, branch);
     put_lacking(out, &row, &next.row);
-    if out.out.len() == before {
+    if out.len() == before {
         return false;
     }
     out.put_are(before, " required at");
-    put!(out; at(to) ", and not known here");
+    out.at("", to).text(", and not known here");
     true
 }
 
@@ -150,9 +138,9 @@ fn put_slot_here(out: &mut Saying, place: &Place) {
     if put_slot(out, place.i, place.row) || put_forgotten(out, place, Item::Held(a)) {
         return;
     }
-    put!(out; ": lock one into s" {a} " first");
+    out.number(": lock one into s", a as u64).text(" first");
     if !place.routine.public {
-        put!(out; ", or say s" {a} " in the in line")
+        out.number(", or say s", a as u64).text(" in the in line");
     }
 }
 
@@ -181,7 +169,7 @@ pub(crate) fn put_words(out: &mut Saying, place: &Place, rule: Rule) {
         Rule::OverBudget => put_over(out, place),
     }
     if !is_reached(place.image, place.marks, place.pc) {
-        put!(out; "; no path leads here: take it out")
+        out.text("; no path leads here: take it out");
     }
 }
 
@@ -194,7 +182,7 @@ pub(crate) fn rule_number(rule: Rule) -> u64
 
 /// The line of the refusal by the rule.
 pub(crate) fn put_refusal_line(out: &mut Saying, place: &Place, rule: Rule) {
-    put!(out; "; refused by V" {rule_number(rule)} ":");
+    out.number("; refused by V", rule_number(rule)).text(":");
     put_words(out, place, rule);
-    put!(out; "\n")
+    out.text("\n");
 }
