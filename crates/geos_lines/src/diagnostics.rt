@@ -1,9 +1,8 @@
 //! Faulty lines as diagnostics, so that editors go there.
 
 use crate::faulty::{FaultyLine, FaultyLines, faulty_lines};
-use crate::sentences::put_text;
 use crate::told::put_saying;
-use geos_text::put_numbered;
+use sentence_text::Text;
 use std::alloc::{AllocError, Global};
 
 /// How many faulty lines have a diagnostic.
@@ -26,38 +25,33 @@ fn column_of(saying: &[u8]) -> Option<&[u8]> {
 }
 
 /// Appends a faulty line: `FILE:LINE:COLUMN: error: SENTENCE`, without the column if the sentence names none.
-fn put_diagnostic(
-    alloc: Global,
-    out: &mut Vec<u8>,
-    file: &str,
-    line: &FaultyLine,
-) -> Result<(), AllocError> {
-    let mut saying = Vec::new(alloc);
-    put_saying(&mut saying, line)?;
-    put_text(out, file)?;
-    put_numbered(out, ":", line.fault.line as u64)?;
-    if let Some(column) = column_of(&saying) {
-        put_text(out, ":")?;
-        out.extend_from_slice(column)?;
+fn put_diagnostic(alloc: Global, out: &mut Text, file: &str, line: &FaultyLine) {
+    let mut saying = Text::new(alloc);
+    put_saying(&mut saying, line);
+    out.put(file);
+    out.put_number(":", line.fault.line as u64);
+    if let Some(column) = column_of(&saying.bytes) {
+        out.put(":");
+        out.put_bytes(column);
     }
-    put_text(out, ": error: ")?;
-    out.extend_from_slice(&saying)?;
-    put_text(out, "\n")
+    out.put(": error: ");
+    out.put_bytes(&saying.bytes);
+    out.put("\n")
 }
 
 /// The faulty lines of the text FILE as diagnostics: `FILE:LINE:COLUMN: error: SENTENCE` for each of the first 20, and how many more there are.
 /// Columns count bytes from 1. `AllocError` if the allocator refuses memory.
 pub fn diagnose_faults(alloc: Global, file: &str, text: &[u8]) -> Result<Vec<u8>, AllocError> {
     let FaultyLines { lines, more } = faulty_lines(alloc, text)?;
-    let mut out = Vec::new(alloc);
+    let mut out = Text::new(alloc);
     for line in lines.iter().take(MOST) {
-        put_diagnostic(alloc, &mut out, file, line)?;
+        put_diagnostic(alloc, &mut out, file, line);
     }
     let more = lines.len().saturating_sub(MOST).saturating_add(more);
     if more > 0 {
-        put_text(&mut out, file)?;
-        put_numbered(&mut out, ": note: and ", more as u64)?;
-        put_text(&mut out, " more faulty lines\n")?;
+        out.put(file);
+        out.put_number(": note: and ", more as u64);
+        out.put(" more faulty lines\n");
     }
-    Ok(out)
+    out.finish()
 }

@@ -1,9 +1,7 @@
 //! The forms of instructions, by the table of opcodes.
 
-use crate::sentences::put_text;
 use geos_opcodes::{FIELDS, Opcode, Operand, operand_at};
-use geos_text::put_numbered;
-use std::alloc::AllocError;
+use sentence_text::Text;
 
 /// An operand in words.
 pub(crate) fn noun(kind: Operand) -> &'static str {
@@ -56,47 +54,45 @@ fn joint(before: usize, all: usize) -> &'static str {
 }
 
 /// Appends the nouns of an instruction's operands.
-fn put_nouns(out: &mut Vec<u8>, opcode: Opcode) -> Result<(), AllocError> {
+fn put_nouns(out: &mut Text, opcode: Opcode) {
     let all = count(opcode);
     let mut before: usize = 0;
     for field in FIELDS.iter() {
         let kind = operand_at(opcode, *field);
         if kind != Operand::Unused {
-            put_text(out, joint(before, all))?;
-            put_text(out, noun(kind))?;
+            out.put(joint(before, all));
+            out.put(noun(kind));
             before = before.saturating_add(1);
         }
     }
-    Ok(())
 }
 
 /// Appends an instruction with operands of its form.
-fn put_example(out: &mut Vec<u8>, opcode: Opcode) -> Result<(), AllocError> {
-    put_text(out, opcode.word())?;
+fn put_example(out: &mut Text, opcode: Opcode) {
+    out.put(opcode.word());
     let mut before: u64 = 0;
     for field in FIELDS.iter() {
         let kind = operand_at(opcode, *field);
         if kind != Operand::Unused {
             let (text, numbered) = example(kind);
             if numbered {
-                put_numbered(out, text, before)?;
+                out.put_number(text, before);
             } else {
-                put_text(out, text)?;
+                out.put(text);
             }
             before = before.saturating_add(1);
         }
     }
-    Ok(())
 }
 
 /// Appends the form of an opcode's instructions: the nouns of their operands, and an example.
-pub(crate) fn put_form(out: &mut Vec<u8>, opcode: Opcode) -> Result<(), AllocError> {
-    put_text(out, opcode.word())?;
+pub(crate) fn put_form(out: &mut Text, opcode: Opcode) {
+    out.put(opcode.word());
     if count(opcode) == 0 {
-        return put_text(out, " has no operands");
+        return out.put(" has no operands");
     }
-    put_text(out, " requires ")?;
-    put_nouns(out, opcode)?;
-    put_text(out, ", as ")?;
+    out.put(" requires ");
+    put_nouns(out, opcode);
+    out.put(", as ");
     put_example(out, opcode)
 }

@@ -10,14 +10,13 @@ ghost use Rattle.geos_lines.specs.Forms.{fits, kinds_of, IsOperand, StopsHere, S
 
 use crate::forms::{noun, put_form};
 use crate::sentences::{
-    COMMENT, Wrong, begins_comment, put_above, put_quoted, put_text, put_too_much, put_word,
-    put_wrong,
+    COMMENT, Wrong, begins_comment, put_above, put_quoted, put_too_much, put_word, put_wrong,
 };
 use crate::words::{Word, word_from};
 use geos_opcodes::{FIELDS, OPCODES, Opcode, Operand, operand_at};
 use geos_source::name_of;
 use geos_text::{NumberError, number_up_to, register};
-use std::alloc::AllocError;
+use sentence_text::Text;
 
 /// Why a word is no operand of a kind.
 #[derive(Clone, Copy)]
@@ -97,7 +96,7 @@ fn is_written(kind: Operand) -> bool
     !matches!(kind, Operand::Unused)
 }
 
-/// The first word of a line from an index on, where it is an operand of this kind; or else where words stop being operands.
+/// The first word of a line from an index on, if it is an operand of this kind; otherwise where words stop being operands.
 fn operand_from(kind: Operand, line: &[u8], at: usize) -> Result<Word, Stop>
     requires { at ≤ length line.now }
     ensures ok { IfOk result (λ word. IsOperand kind (words (drop at line.now)) (words (drop word.end line.now))) }
@@ -139,7 +138,7 @@ pub(crate) fn stop_of(opcode: Opcode, line: &[u8], from: usize) -> Stop
 }
 
 /// Appends why a word does not fit.
-pub(crate) fn put_misfit(out: &mut Vec<u8>, word: Word, misfit: Misfit) -> Result<(), AllocError> {
+pub(crate) fn put_misfit(out: &mut Text, word: Word, misfit: Misfit) {
     match misfit {
         Misfit::Form(wrong) => put_wrong(out, word, wrong),
         Misfit::Above(bound) => put_above(out, word, bound),
@@ -147,46 +146,41 @@ pub(crate) fn put_misfit(out: &mut Vec<u8>, word: Word, misfit: Misfit) -> Resul
 }
 
 /// Appends that a name is none that the text has.
-fn put_undefined(out: &mut Vec<u8>, opcode: Opcode, last: Option<Word>) -> Result<(), AllocError> {
+fn put_undefined(out: &mut Text, opcode: Opcode, last: Option<Word>) {
     let what = match opcode {
         Opcode::Call => "; no routine",
         _ => "; no label",
     };
-    put_text(out, what)?;
+    out.put(what);
     match last {
         Some(word) => {
-            put_text(out, " has the name ")?;
+            out.put(" has the name ");
             put_word(out, word)
         }
-        None => put_text(out, " has its name"),
+        None => out.put(" has its name"),
     }
 }
 
 /// Appends that a word is missing which is required.
-pub(crate) fn put_missing(out: &mut Vec<u8>, what: &str) -> Result<(), AllocError> {
-    put_text(out, "; ")?;
-    put_text(out, what)?;
-    put_text(out, " is missing")
+pub(crate) fn put_missing(out: &mut Text, what: &str) {
+    out.put("; ");
+    out.put(what);
+    out.put(" is missing")
 }
 
-/// Appends what is wrong with an instruction of this opcode, whose operands stand in the line from an index on.
-fn put_operands(
-    out: &mut Vec<u8>,
-    opcode: Opcode,
-    line: &[u8],
-    from: usize,
-) -> Result<(), AllocError>
+/// Appends what is wrong with an instruction of this opcode, whose operands are in the line from an index on.
+fn put_operands(out: &mut Text, opcode: Opcode, line: &[u8], from: usize)
     requires { from ≤ length line.now }
 {
-    put_form(out, opcode)?;
+    put_form(out, opcode);
     match stop_of(opcode, line, from) {
         Stop::At(word, _, misfit) => {
-            put_text(out, "; ")?;
+            out.put("; ");
             put_misfit(out, word, misfit)
         }
         Stop::Missing(kind) => put_missing(out, noun(kind)),
         Stop::TooMuch(word) => {
-            put_text(out, "; ")?;
+            out.put("; ");
             put_too_much(out, word)
         }
         Stop::Nowhere(last) => put_undefined(out, opcode, last),
@@ -226,16 +220,26 @@ fn in_right_letters(word: &[u8]) -> Option<&'static str> {
     }
 }
 
-/// Whether a word comes only after labels.
-fn is_behind_label(word: &[u8]) -> bool {
-    word == b":".as_slice() || Opcode::from_word(word).is_some()
+/// Appends that a label and its colon are one word.
+fn put_apart(out: &mut Text, label: &[u8]) {
+    out.put(": write ");
+    out.put_bytes(label);
+    out.put(": without a space")
+}
+
+/// Whether a word is a name whose colon is the next word.
+fn is_label_apart(word: &[u8], next: Option<Word>) -> bool {
+    match next {
+        Some(next) => next.bytes == b":".as_slice() && name_of(word).is_some(),
+        None => false,
+    }
 }
 
 /// Appends that a word may have been meant as a label.
-fn put_label(out: &mut Vec<u8>, word: &[u8]) -> Result<(), AllocError> {
-    put_text(out, ": for a label say ")?;
-    put_quoted(out, word)?;
-    put_text(out, " and a colon, in one word")
+fn put_label(out: &mut Text, word: &[u8]) {
+    out.put(": for a label say ");
+    put_quoted(out, word);
+    out.put(" and a colon, in one word")
 }
 
 /// How many letters are the same at the beginning of two words, or at the end.
@@ -254,15 +258,19 @@ fn common(word: &[u8], other: &[u8], backward: bool) -> usize {
     most
 }
 
-/// Whether two letters of a word are those of one in capitals, in the other order.
+/// The letter at a place of a word, in capitals; 0 after its end.
+fn capital_at(word: &[u8], at: usize) -> u8 {
+    match word.get(at) {
+        Some(letter) => letter.to_ascii_uppercase(),
+        None => 0,
+    }
+}
+
+/// Whether two letters of a word are those of another one, in the other order.
 fn are_swapped(word: &[u8], other: &[u8], at: usize) -> bool {
     let next = at.saturating_add(1);
-    match (word.get(at), word.get(next), other.get(at), other.get(next)) {
-        (Some(a), Some(b), Some(c), Some(d)) => {
-            a.to_ascii_uppercase() == *d && b.to_ascii_uppercase() == *c
-        }
-        _ => false,
-    }
+    capital_at(word, at) == capital_at(other, next)
+        && capital_at(word, next) == capital_at(other, at)
 }
 
 /// Whether a word differs from one in capitals in one letter, which may be missing in one of them, or in the order of two.
@@ -297,48 +305,48 @@ fn is_small_name(word: &[u8]) -> bool {
 }
 
 /// Appends what else may have been meant by a word, a comment or a label.
-fn put_other(out: &mut Vec<u8>, word: &[u8], behind: Option<Word>) -> Result<(), AllocError> {
+fn put_other(out: &mut Text, word: &[u8], next: Option<Word>) {
     if begins_comment(word) {
-        return put_text(out, COMMENT);
+        return out.put(COMMENT);
     }
     if word == b"public".as_slice() {
-        return put_text(
-            out,
-            ": public follows the name, as routine add public budget 3",
-        );
+        return out.put(": public follows the name, as routine add public budget 3");
     }
-    match behind {
-        Some(next) if is_behind_label(next.bytes) && name_of(word).is_some() => {
+    match next {
+        Some(next) if Opcode::from_word(next.bytes).is_some() && name_of(word).is_some() => {
             put_label(out, word)
         }
         Some(next) if next.bytes.eq_ignore_ascii_case(b"equ") || next.bytes == b"=".as_slice() => {
-            put_text(out, ": numbers have no names; for #define run cpp -P first")
+            out.put(": numbers have no names; for #define run cpp -P first")
         }
         None if is_small_name(word) => put_label(out, word),
-        _ => put_text(out, ", and none of routine, in and out"),
+        _ => out.put(", and none of routine, in and out"),
     }
 }
 
 /// Appends what may have been meant by a word that no line begins with.
-fn put_meant(out: &mut Vec<u8>, word: Word, behind: Option<Word>) -> Result<(), AllocError> {
-    put_word(out, word)?;
-    put_text(out, " is no instruction")?;
-    let near = if behind.is_none() && is_small_name(word.bytes) {
+fn put_meant(out: &mut Text, word: Word, next: Option<Word>) {
+    put_word(out, word);
+    out.put(" is no instruction");
+    if is_label_apart(word.bytes, next) {
+        return put_apart(out, word.bytes);
+    }
+    let near = if next.is_none() && is_small_name(word.bytes) {
         None
     } else {
         nearest(word.bytes).map(|opcode| opcode.word())
     };
     match in_right_letters(word.bytes).or(near) {
         Some(right) => {
-            put_text(out, ": say ")?;
-            put_text(out, right)
+            out.put(": say ");
+            out.put(right)
         }
-        None => put_other(out, word.bytes, behind),
+        None => put_other(out, word.bytes, next),
     }
 }
 
 /// Appends what is wrong with the line of an instruction that begins with a word.
-pub(crate) fn put_instr(out: &mut Vec<u8>, line: &[u8], word: Word) -> Result<(), AllocError>
+pub(crate) fn put_instr(out: &mut Text, line: &[u8], word: Word)
     requires { word.end ≤ length line.now }
 {
     if let Some(opcode) = Opcode::from_word(word.bytes) {

@@ -1,5 +1,5 @@
 //! What an author is told of the faulty lines of a text: each line, with the word at which it goes wrong and the form
-//! that is wanted.
+//! that is required.
 //!
 //! docs/FORMATS.md has the sentences.
 #![tactic(auto)]
@@ -17,5 +17,5 @@ mod words;
 pub use diagnostics::diagnose_faults;
 pub use faulty::{FaultyLine, FaultyLines, MOST_TOLD, faulty_lines};
 pub use sentences::put_word;
-pub use told::{put_line_number, put_more, tell_faults};
+pub use told::{put_line_number, put_more, put_saying, tell_faults};
 pub use words::{Word, word_from};

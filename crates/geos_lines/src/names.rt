@@ -1,18 +1,18 @@
-//! The names of the lines so far, and where they stand first.
+//! The names of the lines so far, and where they are first.
 
 use crate::words::{Word, word_from};
 use geos_source::{Name, label_of, name_of};
 use std::alloc::{AllocError, Global};
 use std::collections::BTreeMap;
 
-/// The line on which each name stands first.
+/// The line on which each name is first.
 #[derive(Drop)]
 struct FirstLines {
     lines: BTreeMap<u128, usize>,
 }
 
 impl FirstLines {
-    /// The line on which the name stood first; `None` where it stands on this line first.
+    /// The line on which the name was first; `None` if it is on this line first.
     fn used_on(&mut self, name: Name, line: usize) -> Result<Option<usize>, AllocError> {
         let key = u128::from_le_bytes(name);
         if let Some(first) = self.lines.get(&key) {
@@ -37,7 +37,7 @@ pub(crate) struct NamesSoFar {
 pub(crate) struct Twice<'a> {
     pub word: Word<'a>,
     pub is_label: bool,
-    /// The line on which it stands first.
+    /// The line on which it is first.
     pub first: usize,
 }
 
@@ -48,7 +48,7 @@ pub(crate) struct Statement<'a> {
     pub line: &'a [u8],
     /// The first label.
     pub label: Option<Word<'a>>,
-    /// The first word behind the labels.
+    /// The first word after the labels.
     pub word: Option<Word<'a>>,
 }
 

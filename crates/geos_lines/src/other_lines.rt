@@ -3,10 +3,10 @@
 ghost use Rattle.std.specs.Prelude.{◌≤◌, length, IfSome};
 
 use crate::instr_lines::{Misfit, name_misfit, number_misfit, put_misfit, put_missing};
-use crate::sentences::{Wrong, hint, put_text, put_too_much, put_word};
+use crate::sentences::{Wrong, hint, put_too_much, put_word};
 use crate::words::{Word, word_from};
-use geos_text::{put_numbered, register};
-use std::alloc::AllocError;
+use geos_text::register;
+use sentence_text::Text;
 
 /// The form of a line that begins a routine.
 const ROUTINE: &str =
@@ -75,21 +75,21 @@ fn head_stop(line: &[u8], from: usize) -> HeadStop
 }
 
 /// Appends what is wrong with a line that begins a routine, whose words after `routine` begin at an index.
-pub(crate) fn put_routine(out: &mut Vec<u8>, line: &[u8], from: usize) -> Result<(), AllocError>
+pub(crate) fn put_routine(out: &mut Text, line: &[u8], from: usize)
     requires { from ≤ length line.now }
 {
-    put_text(out, ROUTINE)?;
+    out.put(ROUTINE);
     match head_stop(line, from) {
         HeadStop::At(word, misfit) => {
-            put_text(out, "; ")?;
+            out.put("; ");
             put_misfit(out, word, misfit)
         }
         HeadStop::Missing(what) => put_missing(out, what),
         HeadStop::TooMuch(word) => {
-            put_text(out, "; ")?;
+            out.put("; ");
             put_too_much(out, word)
         }
-        HeadStop::Nowhere => Ok(()),
+        HeadStop::Nowhere => {}
     }
 }
 
@@ -161,7 +161,7 @@ fn registers(letter: u8) -> Option<(u8, &'static str)>
     }
 }
 
-/// What is said of a text that begins as a register does, where there is none of its number.
+/// What is said of a text that begins as a register does, if there is none of its number.
 fn misnamed(text: &[u8]) -> Option<&'static str> {
     let (count, saying) = registers(*text.first()?)?;
     if !text.get(1)?.is_ascii_digit() {
@@ -195,23 +195,23 @@ fn form_of_item(item: &[u8]) -> &'static str {
 }
 
 /// Appends why a word is no item.
-fn put_item(out: &mut Vec<u8>, item: Word, misfit: Misfit) -> Result<(), AllocError> {
-    put_word(out, item)?;
+fn put_item(out: &mut Text, item: Word, misfit: Misfit) {
+    put_word(out, item);
     match misfit {
         Misfit::Form(_) => {
             let reason = match hint(item.bytes, usize::MAX) {
                 Some(hint) => hint,
                 None => form_of_item(item.bytes),
             };
-            put_text(out, " is no item")?;
-            put_text(out, reason)
+            out.put(" is no item");
+            out.put(reason)
         }
-        Misfit::Above(bound) => put_numbered(out, " has a number above ", u64::from(bound)),
+        Misfit::Above(bound) => out.put_number(" has a number above ", u64::from(bound)),
     }
 }
 
 /// Appends which of the items of a line is none, the first one: they begin at an index.
-pub(crate) fn put_items(out: &mut Vec<u8>, line: &[u8], from: usize) -> Result<(), AllocError>
+pub(crate) fn put_items(out: &mut Text, line: &[u8], from: usize)
     requires { from ≤ length line.now }
 {
     let mut at = from;
@@ -221,5 +221,4 @@ pub(crate) fn put_items(out: &mut Vec<u8>, line: &[u8], from: usize) -> Result<(
         }
         at = word.end;
     }
-    Ok(())
 }

@@ -2,8 +2,7 @@
 
 use crate::words::Word;
 use geos_source::label_of;
-use geos_text::put_numbered;
-use std::alloc::AllocError;
+use sentence_text::Text;
 
 /// The most bytes of a word that are shown.
 const MOST_SHOWN: usize = 40;
@@ -85,16 +84,10 @@ impl Wrong {
     }
 }
 
-/// Appends a text.
-pub(crate) fn put_text(out: &mut Vec<u8>, text: &str) -> Result<(), AllocError> {
-    out.extend_from_slice(text.as_bytes())
-}
-
 /// Appends a byte of a word; if it is no printable character, by its digits.
-fn put_byte(out: &mut Vec<u8>, byte: u8) -> Result<(), AllocError> {
+fn put_byte(out: &mut Text, byte: u8) {
     if byte.is_ascii_graphic() || byte == b' ' {
-        out.push(byte)?;
-        return Ok(());
+        return out.put_bytes(&[byte]);
     }
     let digits = [
         b'\\',
@@ -102,26 +95,26 @@ fn put_byte(out: &mut Vec<u8>, byte: u8) -> Result<(), AllocError> {
         DIGITS[usize::from(byte >> 4)],
         DIGITS[usize::from(byte & 15)],
     ];
-    out.extend_from_slice(&digits)
+    out.put_bytes(&digits)
 }
 
 /// Appends a word in quotation marks, or its first bytes.
-pub(crate) fn put_quoted(out: &mut Vec<u8>, word: &[u8]) -> Result<(), AllocError> {
-    put_text(out, "\"")?;
+pub(crate) fn put_quoted(out: &mut Text, word: &[u8]) {
+    out.put("\"");
     for byte in &word[..word.len().min(MOST_SHOWN)] {
-        put_byte(out, *byte)?;
+        put_byte(out, *byte);
     }
     if word.len() > MOST_SHOWN {
-        put_text(out, "..")?;
+        out.put("..");
     }
-    put_text(out, "\"")
+    out.put("\"")
 }
 
-/// Appends a word in quotation marks, and its column, in bytes from 1. `AllocError` if the allocator refuses memory.
-pub fn put_word(out: &mut Vec<u8>, word: Word) -> Result<(), AllocError> {
-    put_quoted(out, word.bytes)?;
+/// Appends a word in quotation marks, and its column, in bytes from 1.
+pub fn put_word(out: &mut Text, word: Word) {
+    put_quoted(out, word.bytes);
     let column = word.start.saturating_add(1);
-    put_numbered(out, " at column ", column as u64)
+    out.put_number(" at column ", column as u64)
 }
 
 /// What helps if a word begins as a comment does in other languages.
@@ -198,32 +191,32 @@ fn help(word: &[u8], wrong: Wrong) -> Option<&'static str> {
 }
 
 /// Appends what is wrong with a word of a line.
-pub(crate) fn put_wrong(out: &mut Vec<u8>, word: Word, wrong: Wrong) -> Result<(), AllocError> {
-    put_word(out, word)?;
+pub(crate) fn put_wrong(out: &mut Text, word: Word, wrong: Wrong) {
+    put_word(out, word);
     match help(word.bytes, wrong) {
         Some(help) => {
-            put_text(out, wrong.short_text())?;
-            put_text(out, help)
+            out.put(wrong.short_text());
+            out.put(help)
         }
         None => {
-            put_text(out, wrong.text())?;
-            put_text(out, also(word.bytes, wrong).unwrap_or(""))
+            out.put(wrong.text());
+            out.put(also(word.bytes, wrong).unwrap_or(""))
         }
     }
 }
 
 /// Appends that a number is past its bound.
-pub(crate) fn put_above(out: &mut Vec<u8>, word: Word, bound: u32) -> Result<(), AllocError> {
-    put_word(out, word)?;
-    put_numbered(out, " is above ", u64::from(bound))
+pub(crate) fn put_above(out: &mut Text, word: Word, bound: u32) {
+    put_word(out, word);
+    out.put_number(" is above ", u64::from(bound))
 }
 
 /// Appends that a word is one too many.
-pub(crate) fn put_too_much(out: &mut Vec<u8>, word: Word) -> Result<(), AllocError> {
-    put_word(out, word)?;
-    put_text(out, " is one too many")?;
+pub(crate) fn put_too_much(out: &mut Text, word: Word) {
+    put_word(out, word);
+    out.put(" is one too many");
     match hint(word.bytes, usize::MAX) {
-        Some(hint) => put_text(out, hint),
-        None => Ok(()),
+        Some(hint) => out.put(hint),
+        None => {}
     }
 }

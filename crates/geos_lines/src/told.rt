@@ -4,15 +4,15 @@ use crate::faulty::{FaultyLine, FaultyLines, faulty_lines};
 use crate::instr_lines::put_instr;
 use crate::names::{Statement, Twice};
 use crate::other_lines::{put_items, put_routine};
-use crate::sentences::{put_text, put_word};
+use crate::sentences::put_word;
 use crate::words::Word;
 use geos_source::Why;
-use geos_text::put_numbered;
+use sentence_text::Text;
 use std::alloc::{AllocError, Global};
 
 /// Appends the sentence on a name that was used before.
-fn put_twice(out: &mut Vec<u8>, twice: Twice) -> Result<(), AllocError> {
-    put_word(out, twice.word)?;
+fn put_twice(out: &mut Text, twice: Twice) {
+    put_word(out, twice.word);
     let (what, cure) = if twice.is_label {
         (
             " is a label already, on line ",
@@ -21,8 +21,8 @@ fn put_twice(out: &mut Vec<u8>, twice: Twice) -> Result<(), AllocError> {
     } else {
         (" is a routine already, on line ", ": choose another name")
     };
-    put_numbered(out, what, twice.first as u64)?;
-    put_text(out, cure)
+    out.put_number(what, twice.first as u64);
+    out.put(cure)
 }
 
 /// What a line begins after its labels.
@@ -79,25 +79,25 @@ fn too_many(number: usize, statement: Statement) -> &'static str {
 }
 
 /// What is wrong with where the line is.
-fn put_misplaced(out: &mut Vec<u8>, statement: Statement) -> Result<(), AllocError> {
+fn put_misplaced(out: &mut Text, statement: Statement) {
     let beginning = Beginning::of(statement);
     match statement.label {
         Some(label) if !matches!(beginning, Beginning::Instr) => {
-            put_text(out, "no instruction follows the label ")?;
+            out.put("no instruction follows the label ");
             put_word(out, label)
         }
-        _ => put_text(out, beginning.misplaced()),
+        _ => out.put(beginning.misplaced()),
     }
 }
 
 /// What is wrong with the form of a line.
-fn put_form(out: &mut Vec<u8>, statement: Statement) -> Result<(), AllocError> {
+fn put_form(out: &mut Text, statement: Statement) {
     let line = statement.line;
     let Some(word) = statement.word else {
-        return Ok(());
+        return;
     };
     if word.end > line.len() {
-        return Ok(());
+        return;
     }
     match Beginning::by(word.bytes) {
         Beginning::Routine => put_routine(out, line, word.end),
@@ -107,14 +107,14 @@ fn put_form(out: &mut Vec<u8>, statement: Statement) -> Result<(), AllocError> {
 }
 
 /// Appends what is wrong with a line.
-pub(crate) fn put_saying(out: &mut Vec<u8>, line: &FaultyLine) -> Result<(), AllocError> {
+pub fn put_saying(out: &mut Text, line: &FaultyLine) {
     let statement = line.statement;
     match line.fault.why {
         Why::UsedTwice => match line.twice {
             Some(twice) => put_twice(out, twice),
-            None => put_text(out, "a name is used twice"),
+            None => out.put("a name is used twice"),
         },
-        Why::TooMany => put_text(out, too_many(line.fault.line, statement)),
+        Why::TooMany => out.put(too_many(line.fault.line, statement)),
         Why::OutOfPlace => put_misplaced(out, statement),
         Why::UnknownWord | Why::WrongOperands | Why::OutOfRange | Why::Undefined => put_form(
             out, statement,
@@ -122,36 +122,36 @@ pub(crate) fn put_saying(out: &mut Vec<u8>, line: &FaultyLine) -> Result<(), All
     }
 }
 
-/// Appends what is before the sentence on a line: `line N: `. `AllocError` if the allocator refuses memory.
-pub fn put_line_number(out: &mut Vec<u8>, number: usize) -> Result<(), AllocError> {
-    put_numbered(out, "line ", number as u64)?;
-    put_text(out, ": ")
+/// Appends what is before the sentence on a line: `line N: `.
+pub fn put_line_number(out: &mut Text, number: usize) {
+    out.put_number("line ", number as u64);
+    out.put(": ")
 }
 
-/// Appends how many more lines are faulty, if any is. `AllocError` if the allocator refuses memory.
-pub fn put_more(out: &mut Vec<u8>, more: usize) -> Result<(), AllocError> {
+/// Appends how many more lines are faulty, if any is.
+pub fn put_more(out: &mut Text, more: usize) {
     if more == 0 {
-        return Ok(());
+        return;
     }
-    put_numbered(out, ".. and ", more as u64)?;
-    put_text(out, " more\n")
+    out.put_number(".. and ", more as u64);
+    out.put(" more\n")
 }
 
 /// Appends the line of output on a faulty line.
-fn put_told(out: &mut Vec<u8>, line: &FaultyLine) -> Result<(), AllocError> {
-    put_line_number(out, line.fault.line)?;
-    put_saying(out, line)?;
-    put_text(out, "\n")
+fn put_told(out: &mut Text, line: &FaultyLine) {
+    put_line_number(out, line.fault.line);
+    put_saying(out, line);
+    out.put("\n")
 }
 
 /// The explanation of the faulty lines of a text: a line on each of the first 1,000, in order, and how many more there are.
 /// `AllocError` if the allocator refuses memory.
 pub fn tell_faults(alloc: Global, text: &[u8]) -> Result<Vec<u8>, AllocError> {
     let FaultyLines { lines, more } = faulty_lines(alloc, text)?;
-    let mut out = Vec::new(alloc);
+    let mut out = Text::new(alloc);
     for line in &lines {
-        put_told(&mut out, line)?;
+        put_told(&mut out, line);
     }
-    put_more(&mut out, more)?;
-    Ok(out)
+    put_more(&mut out, more);
+    out.finish()
 }

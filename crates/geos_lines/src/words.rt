@@ -1,4 +1,4 @@
-//! The words of a line, and where they stand.
+//! The words of a line, and where they are.
 
 ghost use Rattle.std.specs.Prelude.{◌≡◌, ◌<◌, ◌≤◌, ◌-◌, [], ◌∷◌, not, length, take, drop, IfSome, IfNone};
 ghost use Rattle.std.specs.List.{position_or_len};
@@ -12,11 +12,11 @@ pub struct Word<'a> {
     pub bytes: &'a [u8],
     /// Where it begins in the line, in bytes from 0.
     pub start: usize,
-    /// Where it ends: the words behind it stand from there on.
+    /// Where it ends: the words after it are from there on.
     pub end: usize,
 }
 
-/// How many blanks stand in front of the first word.
+/// How many blanks are before the first word.
 fn blanks_in_front(line: &[u8]) -> usize
     ensures place { result ≡ position_or_len (λ b. not (is_blank b)) line.now }
     ensures within { result ≤ length line.now }
@@ -26,7 +26,7 @@ fn blanks_in_front(line: &[u8]) -> usize
         .unwrap_or(line.len())
 }
 
-/// Where the first blank stands in the line, or else the line's length.
+/// Where the first blank is in the line, or the line's length if it has none.
 fn end_of_word(line: &[u8]) -> usize
     ensures place { result ≡ position_or_len is_blank line.now }
     ensures within { result ≤ length line.now }
@@ -36,7 +36,7 @@ fn end_of_word(line: &[u8]) -> usize
         .unwrap_or(line.len())
 }
 
-/// The first word of a line from an index on; `None` where there is none.
+/// The first word of a line from an index on; `None` if there is none.
 pub fn word_from(line: &[u8], from: usize) -> Option<Word>
     requires { from ≤ length line.now }
     ensures none { IfNone result (words (drop from line.now) ≡ []) }

@@ -18,14 +18,14 @@ use geos_image::{Image, Routine};
 use geos_lines::{Word, word_from};
 use script_commands::routine_named;
 
-/// How many numbers and blocks stand in front of a word of a call.
+/// How many numbers and blocks are before a word of a call.
 #[derive(Clone, Copy)]
 pub(crate) struct Passed {
     pub(crate) numbers: usize,
     pub(crate) blocks: usize,
 }
 
-/// The first word of a line's command from an index on: where names may be written, the command ends in front of `->`.
+/// The first word of a line's command from an index on: if names may be written, the command ends before `->`.
 fn command_word<'a>(names: &Names, line: &'a [u8], from: usize) -> Option<Word<'a>>
     requires { from ≤ length line.now }
     ensures none { IfNone result (command_words names.now.uses (words (drop from line.now)) ≡ []) }
@@ -53,7 +53,7 @@ fn borrowed(routine: &Routine) -> usize
         .count()
 }
 
-/// What is wrong with a word of a call that has to be a block; where nothing is, how many words stand in front of the next one.
+/// What is wrong with a word of a call that must be a block; if nothing is, how many words are before the next one.
 fn pass_block<'a>(names: &Names, passed: Passed, word: Word<'a>) -> Result<Passed, Fault<'a>>
     requires few { passed.numbers + passed.blocks < word.end }
     ensures next { IfOk result (λ next. next.numbers + next.blocks ≡ passed.numbers + passed.blocks + 1) }
@@ -70,7 +70,7 @@ fn pass_block<'a>(names: &Names, passed: Passed, word: Word<'a>) -> Result<Passe
     }
 }
 
-/// The same of a word behind numbers alone, which names no block.
+/// The same of a word that comes only after numbers, and names no block.
 fn pass_number<'a>(
     image: &Image,
     r: u16,
@@ -97,7 +97,7 @@ fn pass_number<'a>(
     }
 }
 
-/// What is wrong with a word of a call behind so many others; where nothing is, how many stand in front of the next one.
+/// What is wrong with a word of a call after so many others; if nothing is, how many are before the next one.
 fn pass<'a>(
     image: &Image,
     r: u16,
@@ -120,7 +120,7 @@ fn pass<'a>(
     }
 }
 
-/// What is wrong with the words behind the name of a public routine, which stand from an index on: the first one that does not fit, or how
+/// What is wrong with the words after the name of a public routine, which are from an index on: the first one that does not fit, or how
 /// many blocks are lent.
 fn words_fault<'a>(
     image: &Image,
@@ -155,7 +155,7 @@ fn words_fault<'a>(
     }
 }
 
-/// What is wrong with the words behind `call`, which stand from an index on.
+/// What is wrong with the words after `call`, which are from an index on.
 fn call_fault<'a>(image: &Image, names: &Names, line: &'a [u8], from: usize) -> Option<Fault<'a>>
     requires { from ≤ length line.now }
     ensures { IsFoundBehindCall names.now.uses image.now (command_words names.now.uses (words (drop from line.now))) result }
@@ -173,7 +173,7 @@ fn call_fault<'a>(image: &Image, names: &Names, line: &'a [u8], from: usize) -> 
     }
 }
 
-/// Whether the word is a command that stands alone.
+/// Whether the word is a command of one word.
 fn stands_alone(word: &[u8]) -> bool
     ensures { result ≡ stands_alone word.now }
 {

@@ -7,7 +7,7 @@ use geos_lines::Word;
 pub(crate) enum Fault<'a> {
     /// The first word is no command.
     NoCommand(Word<'a>),
-    /// It stands behind a command that stands alone.
+    /// It comes after a command of one word.
     Behind(Word<'a>),
     /// A call names no routine.
     NoName,
@@ -15,7 +15,7 @@ pub(crate) enum Fault<'a> {
     NoRoutine(Word<'a>),
     /// The routine of this name is not public.
     NotPublic(Word<'a>),
-    /// It stands behind eight numbers.
+    /// It comes after eight numbers.
     Ninth(Word<'a>),
     /// It is no number.
     NoNumber(Word<'a>),
@@ -23,11 +23,11 @@ pub(crate) enum Fault<'a> {
     TooHigh(Word<'a>),
     /// Its number is above this bound, of the word w of this index.
     PastBound(Word<'a>, u16, usize),
-    /// It stands behind a block, and is none.
+    /// It comes after a block, and is none.
     NumberBehind(Word<'a>),
-    /// It is `@`, and no number behind it.
+    /// It is `@`, and no number after it.
     NoHandle(Word<'a>),
-    /// The number behind its `@` is above 65,535.
+    /// The number after its `@` is above 65,535.
     HighHandle(Word<'a>),
     /// How many blocks the call lends, and how many other ones the routine borrows.
     Lent(usize, usize),
@@ -35,14 +35,14 @@ pub(crate) enum Fault<'a> {
     NotAllowed(Word<'a>),
     /// It is a name that no line before keeps.
     NotKept(Word<'a>),
-    /// It is a `->` that stands behind no call.
+    /// It is a `->` that comes after no call.
     ArrowAlone(Word<'a>),
-    /// It is a `->` with nothing behind it.
+    /// It is a `->` with nothing after it.
     NothingKept(Word<'a>),
-    /// It stands behind `->`, and is no name.
+    /// It comes after `->`, and is no name.
     BadName(Word<'a>),
-    /// It stands behind a name that is kept.
+    /// It comes after a name that is kept.
     SecondName(Word<'a>),
-    /// It is a name that is kept behind too many others.
+    /// It is a name that is kept after too many others.
     NameTooMany(Word<'a>),
 }

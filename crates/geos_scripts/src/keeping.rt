@@ -42,7 +42,7 @@ fn is_call(line: &[u8]) -> bool
     }
 }
 
-/// What is wrong with the words behind `->`.
+/// What is wrong with the words after `->`.
 fn kept_fault<'a>(names: &Names, line: &'a [u8], arrow: Word<'a>) -> Option<Fault<'a>>
     requires within { arrow.end ≤ length line.now }
     requires arrow { is_arrow arrow.bytes.now ≡ true }
@@ -64,7 +64,7 @@ fn kept_fault<'a>(names: &Names, line: &'a [u8], arrow: Word<'a>) -> Option<Faul
     }
 }
 
-/// What is wrong with `->` on a line, and with the words behind it.
+/// What is wrong with `->` on a line, and with the words after it.
 fn arrow_fault<'a>(names: &Names, line: &'a [u8]) -> Option<Fault<'a>>
     ensures { (image : Parts) → IsFoundOfKeeping Allowed image (words line.now) result }
 {
@@ -76,7 +76,7 @@ fn arrow_fault<'a>(names: &Names, line: &'a [u8]) -> Option<Fault<'a>>
     }
 }
 
-/// The same, where names may be written.
+/// The same, if names may be written.
 fn keeping_fault<'a>(names: &Names, line: &'a [u8]) -> Option<Fault<'a>>
     ensures { (image : Parts) → IsFoundOfKeeping names.now.uses image (words line.now) result }
 {
@@ -86,7 +86,7 @@ fn keeping_fault<'a>(names: &Names, line: &'a [u8]) -> Option<Fault<'a>>
     }
 }
 
-/// What is wrong with a line of a script, without its comment. `None` where nothing is found.
+/// What is wrong with a line of a script, without its comment. `None` if nothing is found.
 pub(crate) fn fault_of<'a>(image: &Image, names: &Names, line: &'a [u8]) -> Option<Fault<'a>>
     ensures { IsFound names.now.uses image.now (words line.now) result }
 {

@@ -13,7 +13,7 @@ pub enum NameUse {
     Refused,
 }
 
-/// What a line may write in the place of a number, behind the lines before it.
+/// What a line may write in place of a number, after the lines before it.
 #[derive(Drop)]
 pub(crate) struct Names<'a> {
     /// Whether lines may write names.
@@ -77,7 +77,7 @@ impl<'a> Names<'a> {
         self.kept.len() >= MOST_KEPT
     }
 
-    /// Whether a line that came keeps a word under the name that this says behind its `$`.
+    /// Whether a line that came keeps a word under the name that this says after its `$`.
     pub(crate) fn have(&self, said: &[u8]) -> bool {
         let Some((b'$', name)) = said.split_first() else {
             return false;

@@ -22,7 +22,7 @@ pub(crate) fn is_arrow(word: &[u8]) -> bool
     word == b"->".as_slice()
 }
 
-/// Whether a word stands for a name.
+/// Whether a word is for a name.
 fn begins_as_name(word: &[u8]) -> bool
     ensures { result ≡ begins_as_name word.now }
 {
@@ -32,7 +32,7 @@ fn begins_as_name(word: &[u8]) -> bool
     }
 }
 
-/// What a word says behind `@`, if it names a block.
+/// What a word says after `@`, if it names a block.
 pub(crate) fn behind_at(word: &[u8]) -> Option<&[u8]>
     ensures none { IfNone result (names_block word.now ≡ false) }
     ensures some { IfSome result (λ said. word.now ≡ 64 ∷ said.now) }
@@ -43,7 +43,7 @@ pub(crate) fn behind_at(word: &[u8]) -> Option<&[u8]>
     }
 }
 
-/// What is wrong with a word that is a name or keeps one, where this stands in the place of a number.
+/// What is wrong with a word that is a name or keeps one, if this is in place of a number.
 fn name_fault<'a>(names: &Names, word: Word<'a>, said: &[u8]) -> Option<Fault<'a>>
     requires { IsNamed word.bytes.now }
     ensures none { IfNone result (names.now.uses ≡ Allowed) }
@@ -116,7 +116,7 @@ pub(crate) fn number_fault<'a>(
     }
 }
 
-/// What is wrong with the handle of a block, which a word says behind `@`.
+/// What is wrong with the handle of a block, which a word says after `@`.
 fn handle_fault<'a>(names: &Names, word: Word<'a>, said: &[u8]) -> Option<Fault<'a>>
     requires { word.bytes.now ≡ 64 ∷ said.now }
     ensures { IsFoundOfBlock names.now.uses word.entry result }

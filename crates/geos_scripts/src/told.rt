@@ -15,6 +15,7 @@ use geos_input::{MOST_BYTES, ScriptFault};
 use geos_lines::{MOST_TOLD, put_line_number, put_more};
 use geos_verify::{Checked, check};
 use script_commands::{Line, bad_lines, bad_lines_with_names};
+use sentence_text::Text;
 use std::alloc::{AllocError, Global};
 
 /// What there is to say of the bad lines of a script.
@@ -32,13 +33,13 @@ fn sentences<'a>(
     image: &Image,
     bad: &[Line<'a>],
     mut names: Names<'a>,
-) -> Result<Vec<u8>, AllocError> {
-    let mut told = Vec::new(alloc);
+) -> Result<Text, AllocError> {
+    let mut told = Text::new(alloc);
     for line in bad {
         names.come_to(line)?;
-        put_line_number(&mut told, line.number)?;
-        put_fault(&mut told, fault_of(image, &names, line.text))?;
-        told.push(b'\n')?;
+        put_line_number(&mut told, line.number);
+        put_fault(&mut told, fault_of(image, &names, line.text));
+        told.put("\n");
     }
     Ok(told)
 }
@@ -82,8 +83,9 @@ fn told_of(
     let lines: &[Line] = &bad;
     let few = lines.len().min(MOST_TOLD);
     let mut told = sentences(alloc, checked.image(), &lines[..few], kept)?;
-    put_more(&mut told, lines.len() - few)?;
+    put_more(&mut told, lines.len() - few);
     let first = first_number(lines);
+    let told = told.finish()?;
     Ok(BadLines { told, first })
 }
 
