@@ -11,7 +11,7 @@ use lmem_block::{locate, next};
 use std::alloc::AllocError;
 
 /// The bytes of a handle's chunk; none where no chunk has this handle.
-fn bytes_of(block: &[u8], c: u16) -> &[u8]
+pub(crate) fn bytes_of(block: &[u8], c: u16) -> &[u8]
     requires { IsHeap block.now }
     ensures value { result.now ≡ bytes_of (chunks block.now) c }
     ensures short { length result.now < 65536 }

@@ -7,6 +7,7 @@ mod bars;
 mod chunks;
 mod error;
 mod hex;
+mod objects;
 mod picture;
 mod sides;
 mod telling;

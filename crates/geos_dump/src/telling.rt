@@ -8,7 +8,7 @@ ghost use Rattle.geos_dump.specs.Sides.{Causes, IsOnlyRead, directory_on};
 use crate::error::DumpError;
 use crate::picture::{Scale, put_columns_line, put_row, used_bytes};
 use crate::sides::{Listed, Side, count, directory, entry_at, read_block, word_of};
-use crate::text::{Detail, put_block_text, put_directory_line};
+use crate::text::{Detail, put_block_text, put_directory_text};
 use geos_terms::MOST_BLOCK_BYTES;
 use std::alloc::{AllocError, Global};
 use vm_file::{Device, Directory, Entry, VmFile};
@@ -26,6 +26,7 @@ pub(crate) enum Telling {
 fn put_told(
     out: &mut Vec<u8>,
     telling: Telling,
+    word: &str,
     entry: Entry,
     bytes: &[u8],
 ) -> Result<(), AllocError>
@@ -33,7 +34,7 @@ fn put_told(
     requires size { length bytes.now < 65536 }
 {
     match telling {
-        Telling::Text(detail) => put_block_text(out, detail, entry.h, entry.uid, bytes),
+        Telling::Text(detail) => put_block_text(out, detail, word, entry, bytes),
         Telling::Picture(scale) => put_row(out, entry, used_bytes(bytes), scale),
     }
 }
@@ -46,7 +47,7 @@ fn put_head(
     directory: &Directory,
 ) -> Result<(), AllocError> {
     match telling {
-        Telling::Text(_) => put_directory_line(out, word, directory),
+        Telling::Text(detail) => put_directory_text(out, detail, word, directory),
         Telling::Picture(_) => put_columns_line(out, word, directory),
     }
 }
@@ -67,7 +68,7 @@ fn put_block<D: Device + Drop>(
     let Listed { side, entry } = block;
     let bytes = &mut buffer[..usize::from(entry.len)];
     read_block(file, side, entry.h, bytes)?;
-    put_told(out, telling, entry, bytes)?;
+    put_told(out, telling, word_of(side), entry, bytes)?;
     Ok(())
 }
 

@@ -8,10 +8,11 @@ ghost use Rattle.geos_dump.specs.Sides.{Causes};
 
 use crate::chunks::{put_chunk_dumps, put_chunks};
 use crate::error::DumpError;
+use crate::objects::{put_block_objects, put_map_object};
 use crate::telling::{Telling, put_directories};
 use geos_text::{Part, put_parts};
 use std::alloc::{AllocError, Global};
-use vm_file::{Device, Directory, VmFile};
+use vm_file::{Device, Directory, Entry, VmFile};
 
 /// How much is told of a block.
 #[derive(Clone, Copy)]
@@ -20,6 +21,10 @@ pub enum Detail {
     Lines,
     /// Below it the bytes of its chunks.
     Bytes,
+    /// JSON objects: one for the block and one for each chunk.
+    Objects,
+    /// The same, and the bytes of its chunks.
+    WholeObjects,
 }
 
 /// The line of a block.
@@ -39,20 +44,37 @@ fn put_block_line(out: &mut Vec<u8>, h: u16, uid: u16, bytes: &[u8]) -> Result<(
     out.extend_from_slice(b"\n")
 }
 
-/// What is told of a block.
+/// What is told of a block of the directory that the word names.
 pub(crate) fn put_block_text(
     out: &mut Vec<u8>,
     detail: Detail,
-    h: u16,
-    uid: u16,
+    word: &str,
+    entry: Entry,
     bytes: &[u8],
 ) -> Result<(), AllocError>
     requires { IsHeap bytes.now }
 {
-    put_block_line(out, h, uid, bytes)?;
     match detail {
-        Detail::Lines => Ok(()),
-        Detail::Bytes => put_chunk_dumps(out, bytes),
+        Detail::Lines => put_block_line(out, entry.h, entry.uid, bytes),
+        Detail::Bytes => {
+            put_block_line(out, entry.h, entry.uid, bytes)?;
+            put_chunk_dumps(out, bytes)
+        }
+        Detail::Objects => put_block_objects(out, word, entry, bytes, false),
+        Detail::WholeObjects => put_block_objects(out, word, entry, bytes, true),
+    }
+}
+
+/// What stands in front of the blocks of a directory.
+pub(crate) fn put_directory_text(
+    out: &mut Vec<u8>,
+    detail: Detail,
+    word: &str,
+    directory: &Directory,
+) -> Result<(), AllocError> {
+    match detail {
+        Detail::Lines | Detail::Bytes => put_directory_line(out, word, directory),
+        Detail::Objects | Detail::WholeObjects => put_map_object(out, word, directory),
     }
 }
 
@@ -78,7 +100,7 @@ pub(crate) fn put_directory_line(
 /// The text of what a file keeps: for the current directory and for the saved one a line with
 /// its map block and its map item, and a line for each block with its handle, its user ID, its
 /// size in bytes, and the handles and lengths of its chunks. With `Detail::Bytes` the bytes of
-/// its chunks stand below that, as `xxd` prints them.
+/// its chunks stand below that, as `xxd` prints them. `Detail::Objects` and `Detail::WholeObjects` are the same as JSON objects.
 ///
 /// It reads each block once, through one buffer of the greatest block's size, and writes
 /// nothing. `Disk` where the device fails, or gives bytes that are no heap under the block's

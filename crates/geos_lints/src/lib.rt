@@ -11,4 +11,4 @@ mod telling;
 mod words;
 
 pub use finding::{Lint, lints};
-pub use telling::warnings;
+pub use telling::{lint_sentence, warnings};

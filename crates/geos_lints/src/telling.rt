@@ -13,8 +13,8 @@ fn number_of(words: u8) -> u32 {
     words.trailing_zeros()
 }
 
-/// What a warning says of an instruction.
-fn sentence(alloc: Global, lint: Lint, i: &Instr) -> Result<String, AllocError> {
+/// What a warning says of an instruction. `AllocError` if the allocator refuses memory.
+pub fn lint_sentence(alloc: Global, lint: Lint, i: &Instr) -> Result<String, AllocError> {
     let name = i.opcode.word();
     match lint {
         Lint::NeverReached => { format!(in alloc; "{name} is never reached: no way leads here") }
@@ -46,7 +46,7 @@ pub fn warnings(
     let mut told = Vec::new(alloc);
     for (pc, lint) in found.iter().take(MOST) {
         if let (Some(line), Some(point)) = (lines.get(*pc), image.points().get(*pc)) {
-            let sentence = sentence(alloc, *lint, &point.instr)?;
+            let sentence = lint_sentence(alloc, *lint, &point.instr)?;
             let told_here = format!(in alloc; "{file}:{line}: warning: {sentence}\n")?;
             told.extend_from_slice(told_here.as_bytes())?;
         }

@@ -6,4 +6,4 @@ mod steps;
 mod writes;
 
 pub use lines::{put_counts, put_end, put_refused};
-pub use steps::put_steps;
+pub use steps::{put_done, put_steps};

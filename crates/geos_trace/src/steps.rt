@@ -9,7 +9,7 @@ use geos_text::put_numbered;
 use std::alloc::AllocError;
 
 /// Appends what a step did: what it wrote, or that it was refused; and whether control went to the instruction's label.
-fn put_done(out: &mut Vec<u8>, instr: &Instr, noted: &Noted) -> Result<(), AllocError> {
+pub fn put_done(out: &mut Vec<u8>, instr: &Instr, noted: &Noted) -> Result<(), AllocError> {
     let facts = instr.opcode.facts();
     let to_target = noted.left == Left::ToTarget;
     if facts.operands.refusable && to_target {

@@ -1,0 +1,6 @@
+//! JSON texts: an object on each line.
+#![tactic(auto)]
+
+mod lines;
+
+pub use lines::JsonLines;

@@ -1,0 +1,124 @@
+//! A finding as an object.
+
+use crate::parts::{cause_line, column, cure};
+use geos_explain::Register;
+use geos_json::JsonLines;
+use std::alloc::{AllocError, Global};
+
+/// Whether something is refused, or only doubtful.
+#[derive(Clone, Copy)]
+pub enum Severity {
+    Error,
+    Warning,
+    Note,
+}
+
+impl Severity {
+    fn word(self) -> &'static str {
+        match self {
+            Severity::Error => "error",
+            Severity::Warning => "warning",
+            Severity::Note => "note",
+        }
+    }
+}
+
+/// The instruction that a finding is about.
+#[derive(Clone, Copy)]
+pub struct At<'a> {
+    /// The name of its routine.
+    pub routine: &'a [u8],
+    /// Its pc.
+    pub pc: u16,
+    /// The number of the rule that refuses it, if a rule does.
+    pub rule: Option<u64>,
+    /// The register that the refusal is about, if it is about one.
+    pub register: Option<Register>,
+}
+
+/// What is said of a file, or of a line or an instruction there.
+#[derive(Clone, Copy)]
+pub struct Finding<'f, 'i, 'm> {
+    /// How bad it is.
+    pub severity: Severity,
+    /// The file.
+    pub file: &'f str,
+    /// The line, counted from 1.
+    pub line: Option<u64>,
+    /// The column in the line, counted from 1 in bytes. Otherwise the message may name it.
+    pub column: Option<u64>,
+    /// The instruction.
+    pub at: Option<At<'i>>,
+    /// The sentence.
+    pub message: &'m [u8],
+}
+
+/// The register's letter and number.
+fn register_text(register: Register) -> [u8; 2] {
+    let (letter, number) = match register {
+        Register::Word(n) => (b'w', n),
+        Register::Slot(n) => (b's', n),
+        Register::Pointer(n) => (b'p', n),
+    };
+    [letter, b'0' + number % 8]
+}
+
+/// The rule, as V4.
+fn put_rule(out: &mut JsonLines, rule: Option<u64>) {
+    match rule {
+        Some(rule) if rule < 10 => out.text("rule", &[b'V', b'0' + (rule % 10) as u8]),
+        Some(rule) => out.text("rule", &[b'V', b'1', b'0' + (rule % 10) as u8]),
+        None => out.null("rule"),
+    }
+}
+
+/// The instruction, if there is one.
+fn put_at(out: &mut JsonLines, at: Option<At<'_>>) {
+    let Some(at) = at else {
+        out.null("rule");
+        out.null("routine");
+        out.null("pc");
+        return out.null("register");
+    };
+    put_rule(out, at.rule);
+    out.text("routine", at.routine);
+    out.number("pc", u64::from(at.pc));
+    match at.register {
+        Some(register) => out.text("register", &register_text(register)),
+        None => out.null("register"),
+    }
+}
+
+/// Writes a finding.
+pub fn put_finding(
+    alloc: Global,
+    out: &mut JsonLines,
+    finding: &Finding<'_, '_, '_>,
+) -> Result<(), AllocError> {
+    let message = String::from_utf8_lossy(alloc, finding.message.trim_ascii())?;
+    let cure = cure(alloc, &message)?;
+    out.begin(finding.severity.word());
+    out.text("file", finding.file.as_bytes());
+    out.number_or_null("line", finding.line);
+    out.number_or_null("column", finding.column.or(column(&message)));
+    put_at(out, finding.at);
+    out.text("message", message.as_bytes());
+    out.number_or_null("cause_line", cause_line(&message));
+    if cure.is_empty() {
+        out.null("cure");
+    } else {
+        out.text("cure", cure.as_bytes());
+    }
+    out.end();
+    Ok(())
+}
+
+/// Writes that so many more findings about a file are left out, if there are any.
+pub fn put_more(out: &mut JsonLines, file: &str, more: u64) {
+    if more > 0 {
+        out.begin("more");
+        out.text("file", file.as_bytes());
+        out.number("count", more);
+        out.end()
+    }
+}

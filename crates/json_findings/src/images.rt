@@ -1,0 +1,172 @@
+//! What is wrong with images.
+
+use crate::finding::{At, Finding, Severity, put_finding, put_more};
+use geos_explain::{Refusal, RefusalList, Register, find_refusals};
+use geos_image::{Image, ReadError};
+use geos_json::JsonLines;
+use geos_lints::{Lint, lint_sentence, lints};
+use geos_verify::{Reject, check, refused_places};
+use std::alloc::{AllocError, Global};
+
+/// An image, and where it comes from.
+#[derive(Clone, Copy)]
+struct Judged<'i, 'f, 'l> {
+    image: &'i Image,
+    source: Source<'f, 'l>,
+}
+
+impl<'i> Judged<'i, '_, '_> {
+    /// The line of an instruction.
+    fn line(&self, pc: u16) -> Option<u64> {
+        self.source
+            .lines
+            .get(usize::from(pc))
+            .map(|line| u64::from(*line))
+    }
+
+    /// The name of a routine.
+    fn routine(&self, index: u16) -> &'i [u8] {
+        if index < self.image.count() {
+            self.image.routine(index).name_text()
+        } else {
+            &[]
+        }
+    }
+
+    /// The routine that an instruction is in.
+    fn routine_of(&self, pc: u16) -> u16 {
+        let mut found = 0;
+        for index in 0..self.image.count() {
+            if self.image.start(index) <= pc {
+                found = index;
+            }
+        }
+        found
+    }
+
+    fn put_refusal(
+        &self,
+        alloc: Global,
+        out: &mut JsonLines,
+        refusal: &Refusal,
+    ) -> Result<(), AllocError> {
+        put_finding(
+            alloc,
+            out,
+            &Finding {
+                severity: Severity::Error,
+                file: self.source.file,
+                line: self.line(refusal.pc),
+                column: None,
+                at: Some(At {
+                    routine: self.routine(refusal.routine),
+                    pc: refusal.pc,
+                    rule: Some(refusal.rule),
+                    register: refusal.register,
+                }),
+                message: &refusal.sentence,
+            },
+        )
+    }
+
+    fn put_warning(
+        &self,
+        alloc: Global,
+        out: &mut JsonLines,
+        pc: usize,
+        lint: Lint,
+    ) -> Result<(), AllocError> {
+        let Some(point) = self.image.points().get(pc) else {
+            return Ok(());
+        };
+        let message = lint_sentence(alloc, lint, &point.instr)?;
+        let Ok(pc) = u16::try_from(pc) else {
+            return Ok(());
+        };
+        let register = match lint {
+            Lint::LostInWord7 => Some(Register::Word(7)),
+            Lint::NeverReached | Lint::NeverRead | Lint::NeverTurns => None,
+        };
+        put_finding(
+            alloc,
+            out,
+            &Finding {
+                severity: Severity::Warning,
+                file: self.source.file,
+                line: self.line(pc),
+                column: None,
+                at: Some(At {
+                    routine: self.routine(self.routine_of(pc)),
+                    pc,
+                    rule: None,
+                    register,
+                }),
+                message: message.as_bytes(),
+            },
+        )
+    }
+
+    fn put_warnings(&self, alloc: Global, out: &mut JsonLines) -> Result<(), AllocError> {
+        for (pc, lint) in &lints(alloc, self.image)? {
+            self.put_warning(alloc, out, *pc, *lint)?;
+        }
+        Ok(())
+    }
+
+    fn put_refusals(&self, alloc: Global, out: &mut JsonLines) -> Result<(), AllocError> {
+        let image = self.image;
+        // As many as `geos explain` prints, so that it takes no longer.
+        let most = 32_768 / (usize::from(image.len()) + 1);
+        let RefusalList { list, more } = find_refusals(
+            alloc,
+            self.source.lines,
+            image,
+            &refused_places(image),
+            most,
+        )?;
+        for refusal in &list {
+            self.put_refusal(alloc, out, refusal)?;
+        }
+        put_more(out, self.source.file, u64::from(more));
+        Ok(())
+    }
+}
+
+/// What is looked for in an image.
+#[derive(Clone, Copy)]
+pub struct Source<'f, 'l> {
+    /// The path of the image, or of its text.
+    pub file: &'f str,
+    /// The line of each instruction in the text; empty without one.
+    pub lines: &'l [u32],
+    /// Whether the author is warned.
+    pub warns: bool,
+}
+
+/// Writes each refusal of an image, or warnings about an image that is accepted. The first refusal, if there is one.
+/// `ReadError::BadImage` if the bytes encode no image.
+pub fn put_judged(
+    alloc: Global,
+    out: &mut JsonLines,
+    source: &Source<'_, '_>,
+    bytes: &[u8],
+) -> Result<Option<Reject>, ReadError> {
+    let source = *source;
+    match check(geos_image::read(alloc, bytes)?) {
+        Ok(checked) => {
+            let image = checked.image();
+            if source.warns {
+                Judged { image, source }.put_warnings(alloc, out)?;
+            }
+            Ok(None)
+        }
+        Err((image, reject)) => {
+            let judged = Judged {
+                image: &image,
+                source,
+            };
+            judged.put_refusals(alloc, out)?;
+            Ok(Some(reject))
+        }
+    }
+}

@@ -1,0 +1,84 @@
+//! What a sentence names: its column, the line of the cause, and what helps.
+
+use std::alloc::{AllocError, Global};
+
+/// How a part of a sentence begins that says what to do.
+const ORDERS: [&str; 16] = [
+    "CHK ",
+    "VDIRTY ",
+    "IDIRTY ",
+    "SNE ",
+    "first ",
+    "say ",
+    "ask ",
+    "on each path ",
+    "lock ",
+    "give ",
+    "set ",
+    "end ",
+    "use ",
+    "simplify ",
+    "fetch ",
+    "or, ",
+];
+
+/// The number after the words, if the sentence has them.
+fn number_after(message: &str, words: &str) -> Option<u64> {
+    let (_, rest) = message.split_once(words)?;
+    let end = rest
+        .bytes()
+        .position(|byte| !byte.is_ascii_digit())
+        .unwrap_or(rest.len());
+    rest.get(..end)?.parse().ok()
+}
+
+/// The column that the sentence names.
+pub(crate) fn column(message: &str) -> Option<u64> {
+    number_after(message, " at column ")
+}
+
+/// The first other line that the sentence names.
+pub(crate) fn cause_line(message: &str) -> Option<u64> {
+    number_after(message, " line ")
+}
+
+/// Whether a part after a colon says only what is: it begins with a register, a line, or what there is none of.
+fn is_fact(part: &str) -> bool {
+    let begins_with_register = match part.as_bytes() {
+        [letter, digit, ..] => matches!(letter, b'w' | b's' | b'p' | b'k')
+            && digit.is_ascii_digit(),
+        _ => true,
+    };
+    begins_with_register || part.starts_with("line ") || part.starts_with("no ")
+}
+
+/// Whether a part says what to do.
+fn is_order(part: &str) -> bool {
+    ORDERS.iter().any(|order| part.starts_with(*order))
+}
+
+/// What helps, by a part of a sentence: what follows a colon, or a part after the first that is an order.
+fn cure_in(part: &str, first: bool) -> Option<&str> {
+    match part.split_once(": ") {
+        Some((_, cure)) if !is_fact(cure) => Some(cure),
+        None if !first && is_order(part) => Some(part),
+        _ => None,
+    }
+}
+
+/// What helps, by a sentence: each part that says so.
+pub(crate) fn cure(alloc: Global, message: &str) -> Result<String, AllocError> {
+    let sentence = message.strip_prefix("no rows: ").unwrap_or(message);
+    let mut cures = String::new(alloc);
+    let mut first = true;
+    for part in sentence.split("; ") {
+        if let Some(cure) = cure_in(part, first) {
+            if !cures.is_empty() {
+                cures.push_str("; ")?;
+            }
+            cures.push_str(cure)?;
+        }
+        first = false;
+    }
+    Ok(cures)
+}
