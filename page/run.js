@@ -1,0 +1,186 @@
+// The run: what the program noted, and what follows from it at each place. Place n is before step n + 1.
+
+// Strings of the run have a character for each byte.
+const text_of = (bytes) => new TextDecoder().decode(Uint8Array.from(bytes, (c) => c.charCodeAt(0)));
+// Control characters are shown as their pictures.
+const shown = (text) => text.replace(/[\0-\x08\x0b-\x1f]/g, (c) => String.fromCharCode(0x2400 + c.charCodeAt(0))).replace(/\x7f/g, "\u2421");
+const lines_of = (text) => text.replace(/\n$/, "").split("\n");
+
+// What instructions on the VM file do.
+const COMMITS = { VUPDATE: "current area committed", VSAVE: "saved area committed", VREVERT: "back to the saved area", VDIRTY: "block marked as changed", IDIRTY: "group marked as changed" };
+
+const OWNERS = ["block", "file block"];
+const key_of = (owner, handle) => OWNERS[owner] + " " + handle;
+
+// A line of `geos explain`: its number, its text, and what is known there.
+function explained_line(line) {
+  const [, number, rest] = /^(\d*)\t?(.*)$/s.exec(line);
+  const known = / ; ([^;]*\bsteps?)$/.exec(rest);
+  return { number, code: known ? rest.slice(0, known.index) : rest, known: known ? known[1] : "" };
+}
+
+// A line of `geos trace`: the line of the text, the instruction, and what it did.
+function traced_line(line) {
+  const [, number, code, did] = /^(\d+)\s+(.*?)(?:  ; (.*))?$/.exec(line);
+  return { number, code, did: did || "" };
+}
+
+function state_of(row) {
+  const pairs = (from) => [0, 2, 4, 6].map((n) => [row[from + n], row[from + n + 1]]);
+  return {
+    pc: row[0],
+    words: row.slice(1, 9),
+    counters: row.slice(9, 13),
+    slots: pairs(13).map(([owner, handle]) => key_of(owner, handle)),
+    spans: pairs(21).map(([at, len]) => ({ at, len })),
+  };
+}
+
+function block_of([, owner, handle, locks, marked, chunks]) {
+  const list = chunks.map(([chunk, at, len, hex]) => ({ chunk, at, len, hex }));
+  const from = Math.min(...list.map((c) => c.at));
+  const to = Math.max(...list.map((c) => c.at + c.len));
+  return { key: key_of(owner, handle), vm: owner === 1, handle, locks, marked, chunks: list, from, to, placed: list.length > 0 };
+}
+
+// For each block the places at which it changed, and how.
+function histories(rows) {
+  const all = new Map();
+  for (const row of rows) {
+    const block = block_of(row);
+    if (!all.has(block.key)) all.set(block.key, []);
+    const history = all.get(block.key);
+    if (history.length && history[history.length - 1].place === row[0]) history.pop();
+    history.push({ place: row[0], block });
+  }
+  return all;
+}
+
+// The last entry at a place or before.
+function latest(history, place) {
+  let [low, high] = [0, history.length];
+  while (low < high) {
+    const middle = (low + high) >> 1;
+    if (history[middle].place <= place) low = middle + 1;
+    else high = middle;
+  }
+  return low ? history[low - 1] : null;
+}
+
+class Run {
+  constructor(data) {
+    this.data = data;
+    this.file = shown(text_of(data.file));
+    this.call = data.call.map(text_of).map(shown).join(" ");
+    this.lines = lines_of(text_of(data.explained)).map(explained_line);
+    this.steps = lines_of(text_of(data.traced)).slice(0, -1).map(traced_line).slice(0, data.states.length);
+    this.states = data.states.map(state_of);
+    this.blocks = histories(data.blocks);
+    // A run that is told to its end has one more place, where nothing is left to do.
+    this.whole = this.states.length === data.steps;
+    this.last = Math.max(0, this.whole ? this.states.length : this.states.length - 1);
+    this.outputs = this.output_counts();
+    this.find_lines();
+    this.targets = this.pointer_targets();
+    this.commits = this.file_changes();
+  }
+
+  // How many words are out at each place.
+  output_counts() {
+    const counts = [0];
+    for (const step of this.steps) counts.push(counts[counts.length - 1] + (step.did.startsWith("out ") ? 1 : 0));
+    return counts;
+  }
+
+  // Steps that commit the VM file, or mark a block of it as changed.
+  file_changes() {
+    const changes = [];
+    this.steps.forEach((step, n) => {
+      const name = step.code.split(" ")[0];
+      if (COMMITS[name]) changes.push({ place: n + 1, said: step.did.startsWith("refused") ? name + " " + step.did : COMMITS[name] });
+    });
+    return changes;
+  }
+
+  // For each number of a line where it stands, and at which places its instruction is next.
+  find_lines() {
+    this.rows = new Map(this.lines.map((line, row) => [line.number, row]));
+    this.places = this.lines.map(() => []);
+    this.steps.forEach((step, place) => this.places[this.row_of(step)]?.push(place));
+  }
+
+  row_of(step) {
+    return this.rows.get(step.number) ?? -1;
+  }
+
+  state(place) {
+    return this.states[Math.min(place, this.states.length - 1)];
+  }
+
+  // The row of the instruction that is next.
+  next_row(place) {
+    return place < this.steps.length ? this.row_of(this.steps[place]) : -1;
+  }
+
+  known(place) {
+    return this.lines[this.next_row(place)]?.known || "";
+  }
+
+  block(key, place) {
+    return latest(this.blocks.get(key) || [], place)?.block || null;
+  }
+
+  // Whether something of a block changed in the step before a place.
+  has_changed(key, place) {
+    return latest(this.blocks.get(key) || [], place)?.place === place;
+  }
+
+  // Blocks that were looked at up to a place.
+  blocks_at(place) {
+    return [...this.blocks.keys()].map((key) => this.block(key, place)).filter((b) => b);
+  }
+
+  // What a slot holds, if it holds something.
+  held(slot, place) {
+    const is_held = new RegExp("\\bs" + slot + "=").test(this.known(place));
+    return is_held ? this.block(this.state(place).slots[slot], place) : null;
+  }
+
+  // The slots that hold a block.
+  slots_of(block, place) {
+    return [0, 1, 2, 3].filter((slot) => this.held(slot, place)?.key === block.key).map((slot) => "s" + slot);
+  }
+
+  // What each pointer was set to: at each place four targets, or null.
+  pointer_targets() {
+    const all = [[null, null, null, null]];
+    this.steps.forEach((step, n) => {
+      const after = all[n].map((target, p) => this.checked_target(target, p, n + 1));
+      const set = /\bp(\d)=(?:p(\d)|(?:(element \d+) of )?(chunk|item) (\d+) of s(\d))/.exec(step.did);
+      if (set) after[set[1]] = set[2] ? all[n][set[2]] : this.new_target(set, n + 1);
+      all.push(after);
+    });
+    return all;
+  }
+
+  new_target([, pointer, , element, , chunk, slot], place) {
+    const state = this.state(place);
+    const { at, len } = state.spans[pointer];
+    const found = this.block(state.slots[slot], place)?.chunks.find((c) => c.chunk === +chunk);
+    return { key: state.slots[slot], chunk: +chunk, element, at, len, offset: found ? at - found.at : 0, set: place, stale: 0 };
+  }
+
+  // A target is stale from the first step after which the verifier no longer knows the pointer.
+  checked_target(target, pointer, place) {
+    if (!target || target.stale || place >= this.steps.length) return target;
+    const is_known = new RegExp("\\bp" + pointer + "=").test(this.known(place));
+    return is_known ? target : { ...target, stale: place };
+  }
+
+  // Where the bytes lie now for which a pointer was set, or null.
+  now_at(target, place) {
+    const block = this.block(target.key, place);
+    const chunk = block?.locks ? block.chunks.find((c) => c.chunk === target.chunk) : null;
+    return chunk ? chunk.at + target.offset : null;
+  }
+}
