@@ -1,0 +1,7 @@
+//! Assembly texts in columns.
+#![tactic(auto)]
+
+mod columns;
+mod output;
+
+pub use columns::formatted;

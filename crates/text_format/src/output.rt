@@ -1,0 +1,54 @@
+//! A text that is written line by line.
+
+use std::alloc::{AllocError, Global};
+
+/// A text under construction. After an allocation was refused, nothing more is written, and `finish` reports it.
+#[derive(Drop)]
+pub(crate) struct Output {
+    bytes: Vec<u8>,
+    /// The bytes of the line that is written now.
+    width: usize,
+    is_cut: bool,
+}
+
+impl Output {
+    pub(crate) fn new(alloc: Global) -> Output {
+        Output {
+            bytes: Vec::new(alloc),
+            width: 0,
+            is_cut: false,
+        }
+    }
+
+    /// Writes bytes of one line.
+    pub(crate) fn put(&mut self, bytes: &[u8]) {
+        self.is_cut = self.is_cut || self.bytes.extend_from_slice(bytes).is_err();
+        self.width = self.width.saturating_add(bytes.len());
+    }
+
+    /// Writes spaces up to a column, or one space if the line is at this column or after it. At the start of a line it writes none for
+    /// column 0.
+    pub(crate) fn go_to(&mut self, column: usize) {
+        if self.width >= column && self.width > 0 {
+            self.put(b" ");
+        }
+        for _ in self.width..column {
+            self.put(b" ");
+        }
+    }
+
+    /// Ends the line.
+    pub(crate) fn end_line(&mut self) {
+        self.put(b"\n");
+        self.width = 0;
+    }
+
+    /// The text.
+    pub(crate) fn finish(self) -> Result<Vec<u8>, AllocError> {
+        if self.is_cut {
+            Err(AllocError)
+        } else {
+            Ok(self.bytes)
+        }
+    }
+}
