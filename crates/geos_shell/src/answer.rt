@@ -24,18 +24,14 @@ pub enum Answer {
 }
 
 /// The text without the tip to write `--` before a word that begins with `-`: no command takes such a word.
-fn without_tip(alloc: Global, text: &str) -> Result<String, AllocError> {
-    let mut kept = String::new(alloc);
-    for paragraph in text.split("\n\n") {
-        if paragraph.starts_with("  tip: to pass '") {
-            continue;
+fn without_tip(alloc: Global, text: String) -> Result<String, AllocError> {
+    match text.split_once("\n\n  tip: to pass '") {
+        Some((before, tip)) => {
+            let (_, after) = tip.split_once("\n\n").unwrap_or((tip, ""));
+            format!(in alloc; "{before}\n\n{after}")
         }
-        if !kept.is_empty() {
-            kept.push_str("\n\n")?;
-        }
-        kept.push_str(paragraph)?;
+        None => Ok(text),
     }
-    Ok(kept)
 }
 
 impl Answer {
@@ -45,7 +41,7 @@ impl Answer {
             return Answer::Memory;
         }
         match format!(in alloc; "{error}") {
-            Ok(text) if error.use_stderr() => match without_tip(alloc, &text) {
+            Ok(text) if error.use_stderr() => match without_tip(alloc, text) {
                 Ok(text) => Answer::Misuse(text),
                 Err(_) => Answer::Memory,
             },

@@ -1,66 +1,56 @@
 //! The command line, as `clap` takes it.
 
 use crate::answer::Answer;
-use crate::arguments::{Argument, DIAGNOSTICS, NO_WARNINGS, NameText, NumberName, Setting, WORDS};
-use crate::commands::{CommandText, command_texts};
+use crate::arguments::{DIAGNOSTICS, NO_WARNINGS};
+use crate::commands::all_commands;
 use crate::help::{ABOUT, SESSION, USAGES};
 use clap::{Arg, ArgAction, ArgMatches, Command, Error};
 use std::alloc::{AllocError, Global};
 use std::{env, io};
 
-/// A word that a command may be given.
-fn may_be<'a>(alloc: Global, text: NameText) -> Arg<'a> {
-    Arg::new(alloc, text.name).help(text.about)
+/// What stands before the first such byte, and what comes after it.
+fn parts_of(text: &str, at: char) -> (&str, &str) {
+    text.split_once(at).unwrap_or((text, ""))
 }
 
-/// A word that a command wants.
-fn wanted<'a>(alloc: Global, text: NameText) -> Arg<'a> {
-    may_be(alloc, text).required(true)
-}
-
-/// Words that a command may be given. One that begins with `-` and is a number is one of them: what it
-/// is not is said by who reads it.
-fn words_of<'a>(alloc: Global) -> Arg<'a> {
-    may_be(alloc, WORDS)
-        .num_args(0..)
-        .allow_negative_numbers(true)
-}
-
-/// A number that a command may be given.
-fn number_of<'a>(alloc: Global, number: NumberName) -> Arg<'a> {
-    let text = number.text();
-    may_be(alloc, text)
-        .long(text.name)
-        .value_name("N")
-        .allow_hyphen_values(true)
-        .default_value(number.default())
-}
-
-/// A flag that a command may be given.
-fn flag<'a>(alloc: Global, text: NameText) -> Arg<'a> {
-    may_be(alloc, text)
-        .long(text.name)
-        .action(ArgAction::SetTrue)
-}
-
-/// A word behind a name that a command may be given.
-fn setting_of<'a>(alloc: Global, setting: Setting) -> Arg<'a> {
-    let text = setting.text();
-    may_be(alloc, text)
-        .long(text.name)
-        .value_name(setting.word())
-}
-
-/// What stands behind the name of a command.
-fn arg_of<'a>(alloc: Global, argument: Argument) -> Arg<'a> {
-    match argument {
-        Argument::Word(word) => wanted(alloc, word.text()),
-        Argument::MayBe(word) => may_be(alloc, word.text()),
-        Argument::Words => words_of(alloc),
-        Argument::Number(number) => number_of(alloc, number),
-        Argument::Flag(name) => flag(alloc, name.text()),
-        Argument::Setting(setting) => setting_of(alloc, setting),
+/// A word, or words, that a command may be given, as `arguments` writes it. One of several that begins with `-` and is a number is one of
+/// them: what it is not is said by who reads it.
+fn word_of<'a>(alloc: Global, word: &'a str) -> Arg<'a> {
+    if let Some(name) = word.strip_prefix("?") {
+        Arg::new(alloc, name)
+    } else if let Some(name) = word.strip_prefix("*") {
+        Arg::new(alloc, name)
+            .num_args(0..)
+            .allow_negative_numbers(true)
+    } else {
+        Arg::new(alloc, word).required(true)
     }
+}
+
+/// What a command may be given behind a name, or as a flag, as `arguments` writes it after `--`.
+fn option_of<'a>(alloc: Global, option: &'a str) -> Arg<'a> {
+    let (name, value) = parts_of(option, '=');
+    let (word, default) = parts_of(value, ':');
+    let arg = Arg::new(alloc, name).long(name);
+    if word.is_empty() {
+        arg.action(ArgAction::SetTrue)
+    } else if default.is_empty() {
+        arg.value_name(word)
+    } else {
+        arg.value_name(word)
+            .allow_hyphen_values(true)
+            .default_value(default)
+    }
+}
+
+/// The argument of a line of `arguments`.
+fn arg_of<'a>(alloc: Global, line: &'a str) -> Arg<'a> {
+    let (argument, about) = parts_of(line, ' ');
+    let arg = match argument.strip_prefix("--") {
+        Some(option) => option_of(alloc, option),
+        None => word_of(alloc, argument),
+    };
+    arg.help(about)
 }
 
 /// Puts an item that was made behind the others. It is proved for items of any type, and not over a
@@ -70,11 +60,11 @@ fn add<T: Drop>(items: &mut Vec<T>, made: Result<T, AllocError>) -> Result<(), A
     Ok(())
 }
 
-/// All that stands there.
-fn args_of<'a>(alloc: Global, arguments: &[Argument]) -> Result<Vec<Arg<'a>>, AllocError> {
+/// The arguments of these lines.
+fn args_of<'a>(alloc: Global, lines: &'a str) -> Result<Vec<Arg<'a>>, AllocError> {
     let mut args = Vec::new(alloc);
-    for argument in arguments {
-        add(&mut args, Ok(arg_of(alloc, *argument)))?;
+    for line in lines.lines() {
+        args.push(arg_of(alloc, line))?;
     }
     Ok(args)
 }
@@ -84,18 +74,18 @@ fn described<'a>(command: Command<'a>, about: &'a str, more: &'a str) -> Command
     command.about(about).after_help(more)
 }
 
-/// A command.
-fn command_of<'a>(alloc: Global, text: &CommandText) -> Result<Command<'a>, AllocError> {
-    let args = args_of(alloc, text.args)?;
-    let more = text.more;
-    described(Command::new(alloc, text.name), more.about(), more.text()).args(args)
+/// The command of a text of `arguments`, and what there is to add.
+fn command_of<'a>(alloc: Global, text: &'a str, more: &'a str) -> Result<Command<'a>, AllocError> {
+    let (first, lines) = parts_of(text, '\n');
+    let (name, about) = parts_of(first, ' ');
+    described(Command::new(alloc, name), about, more).args(args_of(alloc, lines)?)
 }
 
 /// All commands.
 fn commands<'a>(alloc: Global) -> Result<Vec<Command<'a>>, AllocError> {
     let mut commands = Vec::new(alloc);
-    for text in command_texts() {
-        add(&mut commands, command_of(alloc, text))?;
+    for &more in all_commands() {
+        add(&mut commands, command_of(alloc, more.words(), more.text()))?;
     }
     Ok(commands)
 }
@@ -114,8 +104,8 @@ fn program<'a>(alloc: Global) -> Result<Command<'a>, AllocError> {
     let commands = commands(alloc)?;
     bare_program(alloc)
         .bin_name("geos")?
-        .arg(flag(alloc, DIAGNOSTICS).global(true))?
-        .arg(flag(alloc, NO_WARNINGS).global(true))?
+        .arg(arg_of(alloc, DIAGNOSTICS).global(true))?
+        .arg(arg_of(alloc, NO_WARNINGS).global(true))?
         .subcommands(commands)
 }
 

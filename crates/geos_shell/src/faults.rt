@@ -23,6 +23,14 @@ fn are_in_kept(rt: &HostRuntime, path: &str) -> bool {
     are_in(rt, name) && !matches!(begins_as_saved(rt, name), Ok(false))
 }
 
+/// Whether it goes into a VM file or an image that a page is to be written to, if there is one.
+fn are_in_page(rt: &HostRuntime, page: Option<&str>) -> bool {
+    match page {
+        Some(path) => are_in_kept(rt, path),
+        None => false,
+    }
+}
+
 /// Whether it goes into the VM file, if there is one.
 fn are_in_any(rt: &HostRuntime, file: Option<&str>) -> bool {
     match file {
@@ -33,7 +41,12 @@ fn are_in_any(rt: &HostRuntime, file: Option<&str>) -> bool {
 
 /// Whether it goes into the standard input, or into a file that one of the words on the command line names, also behind an option's `=`.
 pub(crate) fn are_in_words(rt: &HostRuntime, words: &[String]) -> bool {
-    are_in_read(rt, STANDARD) || words.iter().any(|word| is_in_word(rt, word.as_str()))
+    for word in words {
+        if is_in_word(rt, word.as_str()) {
+            return true;
+        }
+    }
+    are_in_read(rt, STANDARD)
 }
 
 fn is_in_word(rt: &HostRuntime, word: &str) -> bool {
@@ -57,9 +70,12 @@ impl RoutineRequest<'_> {
                     || are_in_read(rt, image)
                     || call.is_none() && are_in_read(rt, STANDARD)
             }
-            RoutineRequest::Trace { image, file, .. } => {
-                are_in_any(rt, *file) || are_in_read(rt, image)
-            }
+            RoutineRequest::Trace {
+                image,
+                words,
+                file,
+                ..
+            } => { are_in_any(rt, *file) || are_in_read(rt, image) || are_in_page(rt, words.page) }
             RoutineRequest::Run {
                 image,
                 file,
@@ -76,7 +92,9 @@ impl TextRequest<'_> {
             TextRequest::Assemble { text, image, .. } => {
                 are_in_read(rt, text) || are_in_kept(rt, image)
             }
-            TextRequest::Budget { text, new, .. } => are_in_read(rt, text) || are_in_kept(rt, new),
+            TextRequest::Budget(made) | TextRequest::Format(made) => {
+                are_in_read(rt, made.text) || are_in_kept(rt, made.new)
+            }
             TextRequest::List(path) | TextRequest::Check(path) | TextRequest::Explain(path) => {
                 are_in_read(rt, path)
             }

@@ -1,8 +1,7 @@
 //! How outputs are written, and what is committed at the end.
 
-use crate::help::Usage;
+use crate::given::Given;
 use crate::misuse::Misuse;
-use clap::ArgMatches;
 
 /// How a word that is put out is written.
 #[derive(Clone, Copy)]
@@ -27,22 +26,21 @@ pub struct OutputForm {
 
 impl OutputForm {
     /// What the words ask for: a word is written in one way alone.
-    pub(crate) fn of<'a>(words: &ArgMatches<'a>, usage: Usage) -> Result<OutputForm, Misuse> {
-        let digits = match (
-            words.get_flag("hex"),
-            words.get_flag("signed"),
-            words.get_flag("text"),
-        ) {
+    pub(crate) fn of(given: &mut Given<'_, '_>) -> OutputForm {
+        let digits = match (given.flag("hex"), given.flag("signed"), given.flag("text")) {
             (false, false, false) => Digits::Decimal,
             (true, false, false) => Digits::Hex,
             (false, true, false) => Digits::Signed,
             (false, false, true) => Digits::Text,
-            _ => return Err(Misuse::TwoWritings(usage)),
+            _ => {
+                given.refuse_if(true, Misuse::TwoWritings);
+                Digits::Decimal
+            }
         };
-        Ok(OutputForm {
+        OutputForm {
             digits,
-            label: words.get_flag("label"),
-        })
+            label: given.flag("label"),
+        }
     }
 
     /// Whether each word is in decimal on a line, and nothing else is.
@@ -62,12 +60,14 @@ pub enum EndCommit {
 
 impl EndCommit {
     /// The commit that the words ask for, if they ask for one.
-    pub(crate) fn of(words: &ArgMatches<'_>, usage: Usage) -> Result<Option<EndCommit>, Misuse> {
-        match (words.get_flag("update"), words.get_flag("save")) {
-            (false, false) => Ok(None),
-            (true, false) => Ok(Some(EndCommit::Update)),
-            (false, true) => Ok(Some(EndCommit::Save)),
-            (true, true) => Err(Misuse::TwoCommits(usage)),
+    pub(crate) fn of(given: &mut Given<'_, '_>) -> Option<EndCommit> {
+        match (given.flag("update"), given.flag("save")) {
+            (true, false) => Some(EndCommit::Update),
+            (false, true) => Some(EndCommit::Save),
+            (both, _) => {
+                given.refuse_if(both, Misuse::TwoCommits);
+                None
+            }
         }
     }
 }

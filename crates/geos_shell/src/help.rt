@@ -4,55 +4,32 @@ pub(crate) const ABOUT: &str = "Checks routines, which are written as text, and 
      Explains texts and images, runs scripts on VM files, and shows what such a file has.";
 
 pub(crate) const USAGES: &str = "\
-geos call IN [NAME [N..]] [--file FILE [--update | --save]] [--grant EFFECTS] [--region N] [--strict] [FORM]
-       geos trace IN NAME [N..] [--steps N] [--only ROUTINE] [--count] [--file FILE] [--region N]
-       geos asm IN OUT [--all-rows]
+geos call IN [NAME [N..]] [--file FILE [--update | --save]] [--grant EFFECTS] [--most-steps N] [--region N] [--strict] [FORM | --json]
+       geos trace IN NAME [N..] [--steps N] [--only ROUTINE | --count | --html OUT] [--file FILE] [--region N] [--json]
+       geos asm IN OUT [--all-rows] [--json]
        geos budget TEXT [OUT | --in-place]
+       geos fmt TEXT [OUT | --in-place]
        geos list IMAGE
-       geos check IMAGE
-       geos explain IMAGE [--script SCRIPT [--vars]]
+       geos check IMAGE [--json]
+       geos explain IMAGE [--script SCRIPT [--vars] | --json]
        geos new FILE [--area N]
-       geos run IMAGE FILE SCRIPT [--grant EFFECTS] [--region N] [--strict] [--vars] [--update | --save] [FORM]
+       geos run IMAGE FILE SCRIPT [--grant EFFECTS] [--most-steps N] [--region N] [--strict] [--vars] [--update | --save] [FORM]
        geos put FILE H C [AT] [--item] [--region N]
        geos get FILE H C [--item] [--region N]
-       geos dump FILE [--chunks]
+       geos dump FILE [--chunks] [--json]
        geos map FILE [--width N]
        geos < SESSION
        geos help [COMMAND | TOPIC]";
 
-/// A command of which the usage is said alone. It names its text, as `More` does.
-#[derive(Clone, Copy)]
-pub(crate) enum Usage {
-    Call,
-    Trace,
-    Asm,
-    Budget,
-    Explain,
-    New,
-    Run,
-    Put,
-    Get,
-    Map,
-}
-
-impl Usage {
-    pub(crate) fn text(self) -> &'static str {
-        match self {
-            Usage::Call =>
-                "geos call IN [NAME [N..]] [--file FILE [--update | --save]] [--grant EFFECTS] [--region N] [--strict] [FORM]",
-            Usage::Trace =>
-                "geos trace IN NAME [N..] [--steps N] [--only ROUTINE] [--count] [--file FILE] [--region N]",
-            Usage::Asm => "geos asm IN OUT [--all-rows]",
-            Usage::Budget => "geos budget TEXT [OUT | --in-place]",
-            Usage::Explain => "geos explain IMAGE [--script SCRIPT [--vars]]",
-            Usage::New => "geos new FILE [--area N]",
-            Usage::Run =>
-                "geos run IMAGE FILE SCRIPT [--grant EFFECTS] [--region N] [--strict] [--vars] [--update | --save] [FORM]",
-            Usage::Put => "geos put FILE H C [AT] [--item] [--region N]",
-            Usage::Get => "geos get FILE H C [--item] [--region N]",
-            Usage::Map => "geos map FILE [--width N]",
+/// The usage of a command: its line of the usages.
+pub(crate) fn usage_of(command: &str) -> &'static str {
+    for line in USAGES.lines() {
+        let usage = line.trim_start();
+        if matches!(usage.strip_prefix("geos "), Some(words) if words.starts_with(command)) {
+            return usage;
         }
     }
+    USAGES
 }
 
 pub(crate) const SESSION: &str = "\
@@ -104,8 +81,8 @@ the verifier accepts the image. `geos help asm` lists the faults of a text, `geo
 NAME is a public routine. It runs on at most eight numbers, its words w0 to w7; missing ones are 0. After
 the numbers comes `@` with the handle of a block of FILE for each slot that the routine borrows, as in a
 script. Each word that the routine outputs is printed in decimal on a line. `bad call: ..` says what is
-wrong with the call. Without NAME, geos runs the script on the standard input as `run` does, also with
---strict, and its lines may use names as with --vars.
+wrong with the call; `refused K`, with status 1, that a block cannot be lent. Without NAME, geos runs the
+script on the standard input as `run` does, also with --strict, and its lines may use names as with --vars.
 
 --hex prints 0x000a for the word 10, and --signed prints -2 for 65534. --text prints all words of a call on
 one line, each as the byte that it is, or from 256 on as two bytes, the low one first. --label prints each
@@ -142,11 +119,13 @@ L and a number is the label of the instruction with that pc, counted from 0.
 The last line says how many steps the whole run took, and what is left of the budget. At most 10,000 steps
 are printed, or --steps many; with --only, those of ROUTINE only. The run goes to its end all the same.
 With --count, each instruction of all routines prints a line in place of the steps: how often it ran, its
-line or pc, and the instruction.
+line or pc, and the instruction. With --html, the file OUT is a page to look at in a browser: the run step by
+step, with memory. It shows 10,000 steps at most.
 
 Example:
   geos trace add.asm add 2 3        if add.asm has the text of `geos help`
-  geos trace examples/lend.asm --file lent.vm peek @1";
+  geos trace examples/lend.asm --file lent.vm peek @1
+  geos trace examples/heap.asm main --html heap.html";
 
 /// Why a text is not assembled.
 const FAULTS: &str = "\
@@ -178,6 +157,16 @@ the new text replaces the old one in TEXT.
 
 Example:
   geos budget draft.asm add.asm && geos call add.asm add 2 3";
+
+/// How a text is formatted.
+const FORMATTED: &str = "\
+Labels and lines `routine` begin at the start of a line, instructions at column 8, and words have one space
+between them. A comment stays at its column if the words before it leave room. The image of the text stays
+the same, and a text that is formatted again does not change. A text with faulty lines can be formatted too.
+OUT is not TEXT; with --in-place the new text replaces the old one in TEXT.
+
+Example:
+  geos fmt add.asm --in-place";
 
 /// How bytes get into a VM file.
 const PUT: &str = "\
@@ -292,14 +281,14 @@ each block has a bar whose length is to the longest bar as the block is to the l
 use, `.` is free. `used` counts bytes, also those of the heap's header and table. A group has `group` in
 place of its user ID.";
 
-/// What is said of a command. The commands name it, and their table is without its texts: a proof goes over
-/// each byte of the texts of a table.
+/// A command. Its texts stand in functions: a proof goes over each byte of the texts of a table.
 #[derive(Clone, Copy)]
 pub(crate) enum More {
     Called,
     Traced,
     Assembled,
     Budgeted,
+    Formatted,
     Listed,
     Checked,
     Explained,
@@ -312,34 +301,15 @@ pub(crate) enum More {
 }
 
 impl More {
-    /// What the command does.
-    pub(crate) fn about(self) -> &'static str {
-        match self {
-            More::Called => "Checks a text or an image, and runs one of its routines, or a script",
-            More::Traced => "Runs one routine, and prints each step, or how often each line ran",
-            More::Assembled => "Makes the image of a text",
-            More::Budgeted => "Writes a text with the least budget of each routine",
-            More::Listed => "Prints the image as text",
-            More::Checked => "Prints `accepted` if the image may run",
-            More::Explained =>
-                "Prints a text or an image with what is known at each instruction, and why it is refused",
-            More::Made => "Makes a VM file without blocks",
-            More::Ran => "Runs a script on a VM file",
-            More::Put => "Writes the standard input into a chunk of a VM file",
-            More::Got => "Prints the bytes of a chunk of a VM file",
-            More::Dumped => "Prints the blocks of a VM file, and their chunks",
-            More::Mapped => "Draws a VM file: how full its areas and blocks are",
-        }
-    }
-
     /// What there is to add.
-    pub(crate) fn text(self) -> &'static str {
+    pub(crate) fn text<'a>(self) -> &'a str {
         match self {
             More::Listed => "",
             More::Called => CALLED,
             More::Traced => TRACED,
             More::Assembled => FAULTS,
             More::Budgeted => BUDGETED,
+            More::Formatted => FORMATTED,
             More::Explained => EXPLAINED,
             More::Checked => RULES,
             More::Made => MADE,

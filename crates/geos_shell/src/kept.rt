@@ -24,14 +24,10 @@ fn first_of(rt: &HostRuntime, path: &str) -> io::Result<Option<[u8; 4]>> {
     }
 }
 
-/// Whether a file begins as a VM file does.
-fn begins_as_vm_file(rt: &HostRuntime, path: &str) -> io::Result<bool> {
-    Ok(first_of(rt, path)? == Some(VM_FILE))
-}
-
 /// Whether a file begins as a VM file or an image does.
 pub(crate) fn begins_as_saved(rt: &HostRuntime, path: &str) -> io::Result<bool> {
-    Ok(first_of(rt, path)?.is_some_and(|first| first == VM_FILE || first == IMAGE))
+    let first = first_of(rt, path)?;
+    Ok(first == Some(VM_FILE) || first == Some(IMAGE))
 }
 
 /// Whether the file with the path, which is there, is not to be changed: it is the one that the bytes are made of, by another name or
@@ -39,6 +35,6 @@ pub(crate) fn begins_as_saved(rt: &HostRuntime, path: &str) -> io::Result<bool> 
 pub(crate) fn is_kept(rt: &HostRuntime, path: &str, source: &str) -> io::Result<bool> {
     match regular_at(rt, source) {
         Some(source) if regular_at(rt, path) == Some(source) => Ok(true),
-        _ => begins_as_vm_file(rt, path),
+        _ => Ok(first_of(rt, path)? == Some(VM_FILE)),
     }
 }

@@ -6,12 +6,14 @@
 
 mod answer;
 mod arguments;
+mod colours;
 mod command_line;
 mod commands;
 mod descriptors;
 mod faults;
 mod file_id;
 mod forms;
+mod given;
 mod help;
 mod kept;
 mod locks;
@@ -25,6 +27,7 @@ mod reason;
 mod replace;
 mod reported;
 mod request;
+mod run_limits;
 mod streams;
 
 pub use answer::Answer;
@@ -38,7 +41,8 @@ pub use printable::Named;
 pub use reason::Reason;
 pub use reported::{Diagnosed, Reported, done_or_reported, report};
 pub use request::{
-    Asked, CallWords, ChunkPath, FileRequest, Reports, Request, RoutineRequest, TextRequest,
-    TraceWords, requested,
+    Asked, CallWords, ChunkPath, FileRequest, NewText, Reports, Request, RoutineRequest,
+    TextRequest, TraceWords, requested,
 };
+pub use run_limits::RunLimits;
 pub use streams::{STANDARD, StreamFault, print, print_lines, read, tell, tell_typist, write};

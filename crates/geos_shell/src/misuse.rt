@@ -1,124 +1,118 @@
 //! Why words that `clap` takes ask for nothing.
 
 use crate::answer::Answer;
-use crate::help::Usage;
-use crate::numbers::Number;
-use std::alloc::{AllocError, Global};
+use crate::help::usage_of;
+use std::alloc::Global;
 
 /// Why words that `clap` takes ask for nothing.
 #[derive(Clone, Copy)]
 pub(crate) enum Misuse {
-    /// What stands behind `--name` is no number, or not one within the limits.
-    WrongNumber(Number),
-    /// What stands for this name, of a command of this usage, is no number up to 65,535.
-    NoWord(&'static str, Usage),
-    /// Two words name the standard input, of a command of this usage.
-    TwoOfOneStream(Usage),
+    /// What stands behind `--area` is no number, or not one within the limits.
+    WrongArea,
+    /// The same of `--region`.
+    WrongRegion,
+    /// The same of `--steps`.
+    WrongSteps,
+    /// The same of `--most-steps`.
+    WrongMostSteps,
+    /// The same of `--width`.
+    WrongWidth,
+    /// What stands for the handle of a block is no number up to 65,535.
+    NoHandle,
+    /// The same of the handle of a chunk.
+    NoChunk,
+    /// The same of an offset.
+    NoOffset,
+    /// Two words name the standard input.
+    TwoOfOneStream,
     /// A text or an image is to come on the standard input, and no routine is named, so that a script is to come there too.
     NoName,
-    /// A routine is named, so that no script is to run, and it is said how one ends.
-    NoScript,
     /// Lines may write names, and no script is given.
     NamesOfNoScript,
-    /// A word of an output is to be written in two ways, of a command of this usage.
-    TwoWritings(Usage),
-    /// What is made of the text that this name stands for is to take the place of it, by a command of this usage.
-    OntoText(&'static str, Usage),
-    /// Two commits are asked for, of a command of this usage.
-    TwoCommits(Usage),
+    /// A word of an output is to be written in two ways.
+    TwoWritings,
+    /// The image of the text IN is to take its place.
+    OntoIn,
+    /// What is made of the text TEXT is to take its place, and it is not said so.
+    OntoText,
+    /// Two commits are asked for.
+    TwoCommits,
+    /// JSON objects are asked for, and this, which asks for another form.
+    NotWithJson(Other),
     /// A commit is asked for, and no file is named.
     NoFile,
+    /// A page of a run is to show one routine, or counts.
+    PageOfPart,
     /// A text is to be replaced that is no file, or whose new form has another path.
     NotInPlace,
     /// Nothing is wrong with the words, but an allocation was refused.
     Memory,
 }
 
-/// Which numbers there are.
-fn limits(alloc: Global, number: &Number) -> Result<String, AllocError> {
-    let Number {
-        name,
-        least,
-        most,
-        unit,
-        ..
-    } = *number;
-    if unit == 1 {
-        return format!(in alloc; "the number of '--{name}' is from {least} to {most}");
+/// What asks for another form than JSON objects.
+#[derive(Clone, Copy)]
+pub(crate) enum Other {
+    Diagnostics,
+    Hex,
+    Signed,
+    Text,
+    Label,
+    Page,
+    Output,
+    Script,
+}
+
+impl Other {
+    fn message(self) -> &'static str {
+        match self {
+            Other::Diagnostics => "only one of '--json' and '--diagnostics' can be given",
+            Other::Hex => "only one of '--json' and '--hex' can be given",
+            Other::Signed => "only one of '--json' and '--signed' can be given",
+            Other::Text => "only one of '--json' and '--text' can be given",
+            Other::Label => "only one of '--json' and '--label' can be given",
+            Other::Page => "only one of '--json' and '--html' can be given",
+            Other::Output => "only one of '--json' and OUT '-' can be given",
+            Other::Script => "only one of '--json' and '--script' can be given",
+        }
     }
-    format!(in alloc; "the number of '--{name}' is a multiple of {unit} from {least} to {most}")
 }
 
 impl Misuse {
     /// What is wrong.
-    fn message(&self, alloc: Global) -> Result<String, AllocError> {
+    fn message(self) -> &'static str {
         match self {
-            Misuse::WrongNumber(number) => limits(alloc, number),
-            Misuse::NoWord(name, _) => { format!(in alloc; "{name} is a number from 0 to 65535") }
-            Misuse::TwoOfOneStream(_) => {
-                String::from_str(alloc, "only one of IMAGE and SCRIPT is the standard input")
-            }
-            Misuse::NoName => {
-                String::from_str(alloc, "IN is the standard input, so NAME has to be given")
-            }
-            Misuse::NoScript => {
-                String::from_str(alloc, "'--strict' is for a script, so NAME can't be given")
-            }
-            Misuse::NamesOfNoScript => {
-                String::from_str(
-                    alloc,
-                    "'--vars' is for a script, so '--script' has to be given",
-                )
-            }
-            Misuse::TwoWritings(_) => {
-                String::from_str(
-                    alloc,
-                    "only one of '--hex', '--signed' and '--text' can be given",
-                )
-            }
-            Misuse::OntoText(name, _) => {
-                format!(in alloc; "{name} and OUT are one file, and the text would be lost")
-            }
-            Misuse::TwoCommits(_) => {
-                String::from_str(alloc, "only one of '--update' and '--save' can be given")
-            }
-            Misuse::NoFile => String::from_str(alloc, "'--update' and '--save' require '--file'"),
-            Misuse::NotInPlace => {
-                String::from_str(alloc, "'--in-place' requires a file TEXT, and no OUT")
-            }
-            Misuse::Memory => Err(AllocError),
+            Misuse::WrongArea => "the number of '--area' is a multiple of 512 from 512 to 16777216",
+            Misuse::WrongRegion => "the number of '--region' is from 65536 to 16777216",
+            Misuse::WrongSteps => "the number of '--steps' is from 0 to 1000000",
+            Misuse::WrongMostSteps => "the number of '--most-steps' is from 0 to 4294967295",
+            Misuse::WrongWidth => "the number of '--width' is from 60 to 1000",
+            Misuse::NoHandle => "H is a number from 0 to 65535",
+            Misuse::NoChunk => "C is a number from 0 to 65535",
+            Misuse::NoOffset => "AT is a number from 0 to 65535",
+            Misuse::TwoOfOneStream => "only one of IMAGE and SCRIPT is the standard input",
+            Misuse::NoName => "IN is the standard input, so NAME has to be given",
+            Misuse::NamesOfNoScript => "'--vars' is for a script, so '--script' has to be given",
+            Misuse::TwoWritings => "only one of '--hex', '--signed' and '--text' can be given",
+            Misuse::OntoIn => "IN and OUT are one file, and the text would be lost",
+            Misuse::OntoText => "TEXT and OUT are one file, and the text would be lost",
+            Misuse::TwoCommits => "only one of '--update' and '--save' can be given",
+            Misuse::NotWithJson(other) => other.message(),
+            Misuse::NoFile => "'--update' and '--save' require '--file'",
+            Misuse::PageOfPart => "'--html' can't be given with '--only' or '--count'",
+            Misuse::NotInPlace => "'--in-place' requires a file TEXT, and no OUT",
+            Misuse::Memory => "memory",
         }
     }
 
-    /// The command that the words are for, and what stands behind it.
-    fn usage(&self) -> &'static str {
-        match self {
-            Misuse::WrongNumber(number) => number.usage.text(),
-            Misuse::TwoWritings(usage)
-            | Misuse::TwoCommits(usage)
-            | Misuse::NoWord(_, usage)
-            | Misuse::TwoOfOneStream(usage)
-            | Misuse::OntoText(_, usage) => usage.text(),
-            Misuse::NoName | Misuse::NoScript | Misuse::NoFile | Misuse::Memory => {
-                Usage::Call.text()
-            }
-            Misuse::NotInPlace => Usage::Budget.text(),
-            Misuse::NamesOfNoScript => Usage::Explain.text(),
+    /// What the words of the command are answered, in the form of what `clap` says.
+    pub(crate) fn answer(self, alloc: Global, command: &str) -> Answer {
+        if matches!(self, Misuse::Memory) {
+            return Answer::Memory;
         }
-    }
-
-    /// What is wrong, in the form of what `clap` says.
-    fn text(&self, alloc: Global) -> Result<String, AllocError> {
-        let message = self.message(alloc)?;
-        let usage = self.usage();
-        format!(in alloc;
+        let (message, usage) = (self.message(), usage_of(command));
+        match format!(in alloc;
             "error: {message}\n\nUsage: {usage}\n\nFor more information, try '--help'.\n"
-        )
-    }
-
-    /// What the words are answered.
-    pub(crate) fn answer(&self, alloc: Global) -> Answer {
-        match self.text(alloc) {
+        ) {
             Ok(text) => Answer::Misuse(text),
             Err(_) => Answer::Memory,
         }

@@ -10,16 +10,22 @@ pub(crate) struct Printable<'a>(pub(crate) &'a str);
 
 /// Whether a text has control characters.
 pub(crate) fn has_control(text: &str) -> bool {
-    text.chars().any(char::is_control)
+    for character in text.chars() {
+        if character.is_control() {
+            return true;
+        }
+    }
+    false
 }
 
-/// Writes the bytes of a character.
-fn write_bytes<W: fmt::Write>(f: &mut Formatter<W>, character: char) -> fmt::Result {
-    let mut bytes = [0; 4];
-    for byte in character.encode_utf8(&mut bytes).bytes() {
-        write!(f, "\\x{byte:02x}")?;
+/// Writes the bytes of a control character. One past ASCII is U+0080 to U+009F, which has a byte 0xc2 before that of its number.
+fn write_bytes<W: fmt::Write>(f: &mut Formatter<W>, control: char) -> fmt::Result {
+    let number = u32::from(control);
+    if control.is_ascii() {
+        write!(f, "\\x{number:02x}")
+    } else {
+        write!(f, "\\xc2\\x{number:02x}")
     }
-    Ok(())
 }
 
 impl Display for Printable<'_> {

@@ -163,21 +163,19 @@ fn is_there() -> io::Error {
     io::Error::from(ErrorKind::AlreadyExists)
 }
 
-/// Puts the bytes in the place of the file that the path leads to.
-fn replace_file(rt: &HostRuntime, path: &str, bytes: &[u8], source: &str) -> Result<(), PartFault> {
+/// Puts the bytes in the place of the file that the path leads to, or makes it where none was. An error where one has come since.
+fn put_behind_links(
+    rt: &HostRuntime,
+    path: &str,
+    was_there: bool,
+    bytes: &[u8],
+    source: &str,
+) -> Result<(), PartFault> {
     let named = behind_links(rt, path)?;
     match found(rt, named.as_str())? {
-        None => Ok(write_into(rt, path, bytes)?),
+        None if was_there => Ok(write_into(rt, path, bytes)?),
+        Some(_) if !was_there => Err(is_there().into()),
         there => put_whole(rt, named.as_path(), there, bytes, source),
-    }
-}
-
-/// Makes the file that the path leads to, where there was none. An error where one has come since.
-fn make_file(rt: &HostRuntime, path: &str, bytes: &[u8], source: &str) -> Result<(), PartFault> {
-    let named = behind_links(rt, path)?;
-    match found(rt, named.as_str())? {
-        None => put_whole(rt, named.as_path(), None, bytes, source),
-        Some(_) => Err(is_there().into()),
     }
 }
 
@@ -199,7 +197,7 @@ fn put_into_file(
     if faults_go_into(rt, file) {
         return Err(is_there().into());
     }
-    replace_file(rt, path, bytes, source)
+    put_behind_links(rt, path, true, bytes, source)
 }
 
 /// Puts the bytes, which are made of what `source` names, in the place of the file's, or makes the file: they are written beside it, and
@@ -214,7 +212,7 @@ pub(crate) fn replace(
     source: &str,
 ) -> Result<(), PartFault> {
     match found(rt, path)? {
-        None => make_file(rt, path, bytes, source),
+        None => put_behind_links(rt, path, false, bytes, source),
         Some(led_to) if led_to.is_file => put_into_file(rt, path, led_to.id, bytes, source),
         Some(_) => Ok(write_into(rt, path, bytes)?),
     }

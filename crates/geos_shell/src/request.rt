@@ -4,15 +4,13 @@ ghost use Rattle.std.specs.Prelude.{IfOk};
 ghost use Rattle.geos_shell.specs.Limits.{KeepsLimits, RunsWithinLimits, WorksWithinLimits};
 
 use crate::answer::Answer;
-use crate::arguments::{DIAGNOSTICS, NO_WARNINGS};
 use crate::command_line::matches_of;
 use crate::forms::{EndCommit, OutputForm};
-use crate::help::Usage;
-use crate::misuse::Misuse;
-use crate::numbers::{
-    AREA, CALL_REGION, GET_REGION, PUT_REGION, REGION, STEPS, TRACE_REGION, WIDTH, word_of,
-};
+use crate::given::Given;
+use crate::misuse::{Misuse, Other};
+use crate::numbers::{AREA, REGION, STEPS, WIDTH};
 use crate::printable::{Printable, has_control};
+use crate::run_limits::RunLimits;
 use crate::streams::{STANDARD, is_stream};
 use clap::{ArgMatches, Error};
 use std::alloc::{AllocError, Global};
@@ -35,6 +33,8 @@ pub struct TraceWords<'a> {
     pub steps: u32,
     /// Whether it is printed how often each line ran, in place of steps.
     pub count: bool,
+    /// The path that a page goes to, if one is made in place of lines.
+    pub page: Option<&'a str>,
 }
 
 /// A chunk of a block of a VM file, or an item of a group.
@@ -96,12 +96,10 @@ pub enum TextRequest<'a> {
         image: &'a str,
         all_rows: bool,
     },
-    /// To write a text with the least budgets, to another path, or in its own place.
-    Budget {
-        text: &'a str,
-        new: &'a str,
-        in_place: bool,
-    },
+    /// To write a text with the least budgets.
+    Budget(NewText<'a>),
+    /// To write a text with its words in columns.
+    Format(NewText<'a>),
     /// To print the listing of an image.
     List(&'a str),
     /// To say whether an image may run.
@@ -114,6 +112,17 @@ pub enum TextRequest<'a> {
         script: &'a str,
         names: bool,
     },
+}
+
+/// A text that is made of another one, with another path, or in its own place.
+#[derive(Clone, Copy)]
+pub struct NewText<'a> {
+    /// The path of the text that is read.
+    pub text: &'a str,
+    /// The path that is written, which is `text` if it is made in its place.
+    pub new: &'a str,
+    /// Whether it takes the place of what it is made of.
+    pub in_place: bool,
 }
 
 /// To make a VM file, to write into it, or to show it.
@@ -164,10 +173,11 @@ pub enum Request<'a> {
 pub struct Asked<'a> {
     /// What is to be done.
     pub request: Request<'a>,
-    /// What public routines may do that are run, if that is limited: words with commas.
-    pub grants: Option<&'a str>,
+    /// What is tested of routines before they run.
+    pub limits: RunLimits<'a>,
     diagnostics: bool,
     no_warnings: bool,
+    json: bool,
 }
 
 /// What is reported on standard error beside the line of a fault.
@@ -177,269 +187,283 @@ pub struct Reports {
     pub diagnostics: bool,
     /// Warnings about texts.
     pub warnings: bool,
+    /// Whether results, findings and warnings are JSON objects on the standard output, in place of diagnostics.
+    pub json: bool,
 }
 
 impl Asked<'_> {
     /// What is reported: diagnostics if `--diagnostics` asks for them or standard error is a terminal, and warnings with them unless
     /// `--no-warnings` leaves them out.
     pub fn reports(&self, rt: &HostRuntime) -> Reports {
-        let diagnostics = self.diagnostics || rt.stderr().is_terminal();
+        let json = self.json;
+        let diagnostics = !json && (self.diagnostics || rt.stderr().is_terminal());
         Reports {
             diagnostics,
-            warnings: diagnostics && !self.no_warnings,
+            warnings: (json || diagnostics) && !self.no_warnings,
+            json,
         }
-    }
-}
-
-/// A word that the command wants, so it is there.
-fn word<'a>(words: &ArgMatches<'a>, name: &str) -> &'a str {
-    words.get_str(name).unwrap_or("")
-}
-
-/// The words that are given for a name, if there are any.
-fn words_of<'a>(alloc: Global, words: &ArgMatches<'a>, name: &str) -> Result<Vec<&'a str>, Misuse> {
-    match words.get_strs(name) {
-        Some(given) => Vec::from_slice(alloc, given).map_err(|_| Misuse::Memory),
-        None => Ok(Vec::new(alloc)),
     }
 }
 
 /// The call that is asked for, if a routine is named.
-fn call_words<'a>(alloc: Global, words: &ArgMatches<'a>) -> Result<Option<CallWords<'a>>, Misuse> {
-    match words.get_str("NAME") {
-        Some(name) => Ok(Some(CallWords {
+fn call_words<'a>(alloc: Global, given: &mut Given<'_, 'a>) -> Option<CallWords<'a>> {
+    match given.setting("NAME") {
+        Some(name) => Some(CallWords {
             name,
-            words: words_of(alloc, words, "N")?,
-        })),
-        None => Ok(None),
-    }
-}
-
-/// What `call` or `run` grants, if that is limited.
-fn grants_of<'a>(matches: &ArgMatches<'a>) -> Option<&'a str> {
-    match matches.subcommand() {
-        Some(("call" | "run", words)) => words.get_str("grant"),
-        _ => None,
+            words: given.words(alloc, "N"),
+        }),
+        None => None,
     }
 }
 
 /// What a `call` asks for. A wrong number is said first.
-fn call_of<'a>(alloc: Global, words: &ArgMatches<'a>) -> Result<RoutineRequest<'a>, Misuse>
-    ensures { IfOk result RunsWithinLimits }
+fn call_of<'a>(alloc: Global, given: &mut Given<'_, 'a>) -> RoutineRequest<'a>
+    ensures { RunsWithinLimits result }
 {
-    let region = CALL_REGION.of(words)?;
-    let image = word(words, "IN");
-    let call = call_words(alloc, words)?;
-    if call.is_none() && is_stream(image) {
-        return Err(Misuse::NoName);
-    }
-    let strict = words.get_flag("strict");
-    if call.is_some() && strict {
-        return Err(Misuse::NoScript);
-    }
-    let file = words.get_str("file");
-    let commit = EndCommit::of(words, Usage::Call)?;
-    if commit.is_some() && file.is_none() {
-        return Err(Misuse::NoFile);
-    }
-    Ok(RoutineRequest::Call {
+    let region = given.number(&REGION);
+    let image = given.word("IN");
+    let call = call_words(alloc, given);
+    given.refuse_if(call.is_none() && is_stream(image), Misuse::NoName);
+    let file = given.setting("file");
+    let commit = EndCommit::of(given);
+    given.refuse_if(commit.is_some() && file.is_none(), Misuse::NoFile);
+    RoutineRequest::Call {
         image,
         call,
         file,
         region,
-        strict,
-        form: OutputForm::of(words, Usage::Call)?,
+        strict: given.flag("strict"),
+        form: OutputForm::of(given),
         commit,
-    })
+    }
 }
 
 /// What a `trace` asks for. A wrong number is said first.
-fn trace_of<'a>(alloc: Global, words: &ArgMatches<'a>) -> Result<RoutineRequest<'a>, Misuse>
-    ensures { IfOk result RunsWithinLimits }
+fn trace_of<'a>(alloc: Global, given: &mut Given<'_, 'a>) -> RoutineRequest<'a>
+    ensures { RunsWithinLimits result }
 {
-    let region = TRACE_REGION.of(words)?;
-    let steps = STEPS.of(words)?;
+    let region = given.number(&REGION);
+    let steps = given.number(&STEPS);
     let call = CallWords {
-        name: word(words, "NAME"),
-        words: words_of(alloc, words, "N")?,
+        name: given.word("NAME"),
+        words: given.words(alloc, "N"),
     };
-    Ok(RoutineRequest::Trace {
-        image: word(words, "IN"),
+    let (only, count) = (given.setting("only"), given.flag("count"));
+    let page = given.setting("html");
+    given.refuse_if(
+        page.is_some() && (count || only.is_some()),
+        Misuse::PageOfPart,
+    );
+    RoutineRequest::Trace {
+        image: given.word("IN"),
         words: TraceWords {
             call,
-            only: words.get_str("only"),
+            only,
             steps,
-            count: words.get_flag("count"),
+            count,
+            page,
         },
-        file: words.get_str("file"),
+        file: given.setting("file"),
         region,
-    })
+    }
 }
 
 /// What an `asm` asks for. The image of a text does not take its place: the text would be lost.
-fn asm_of<'a>(words: &ArgMatches<'a>) -> Result<TextRequest<'a>, Misuse> {
-    let (text, image) = (word(words, "IN"), word(words, "OUT"));
-    if text == image && !is_stream(text) {
-        return Err(Misuse::OntoText("IN", Usage::Asm));
-    }
-    Ok(TextRequest::Assemble {
+fn asm_of<'a>(given: &mut Given<'_, 'a>) -> TextRequest<'a> {
+    let (text, image) = (given.word("IN"), given.word("OUT"));
+    given.refuse_if(text == image && !is_stream(text), Misuse::OntoIn);
+    TextRequest::Assemble {
         text,
         image,
-        all_rows: words.get_flag("all-rows"),
-    })
+        all_rows: given.flag("all-rows"),
+    }
 }
 
 /// What a `new` asks for.
-fn new_of<'a>(words: &ArgMatches<'a>) -> Result<FileRequest<'a>, Misuse>
-    ensures { IfOk result WorksWithinLimits }
+fn new_of<'a>(given: &mut Given<'_, 'a>) -> FileRequest<'a>
+    ensures { WorksWithinLimits result }
 {
-    match AREA.of(words) {
-        Ok(area) => Ok(FileRequest::New {
-            file: word(words, "FILE"),
-            area,
-        }),
-        Err(misuse) => Err(misuse),
+    FileRequest::New {
+        area: given.number(&AREA),
+        file: given.word("FILE"),
     }
 }
 
 /// What a `run` asks for. A wrong number is said first.
-fn run_of<'a>(words: &ArgMatches<'a>) -> Result<RoutineRequest<'a>, Misuse>
-    ensures { IfOk result RunsWithinLimits }
+fn run_of<'a>(given: &mut Given<'_, 'a>) -> RoutineRequest<'a>
+    ensures { RunsWithinLimits result }
 {
-    let region = REGION.of(words)?;
-    let (image, script) = (word(words, "IMAGE"), word(words, "SCRIPT"));
-    if is_stream(image) && is_stream(script) {
-        return Err(Misuse::TwoOfOneStream(Usage::Run));
-    }
-    Ok(RoutineRequest::Run {
+    let region = given.number(&REGION);
+    let (image, script) = (given.word("IMAGE"), given.word("SCRIPT"));
+    given.refuse_if(
+        is_stream(image) && is_stream(script),
+        Misuse::TwoOfOneStream,
+    );
+    RoutineRequest::Run {
         image,
-        file: word(words, "FILE"),
+        file: given.word("FILE"),
         script,
         region,
-        strict: words.get_flag("strict"),
-        names: words.get_flag("vars"),
-        form: OutputForm::of(words, Usage::Run)?,
-        commit: EndCommit::of(words, Usage::Run)?,
-    })
+        strict: given.flag("strict"),
+        names: given.flag("vars"),
+        form: OutputForm::of(given),
+        commit: EndCommit::of(given),
+    }
 }
 
 /// What an `explain` asks for.
-fn explain_of<'a>(words: &ArgMatches<'a>) -> Result<TextRequest<'a>, Misuse> {
-    let image = word(words, "IMAGE");
-    let names = words.get_flag("vars");
-    match words.get_str("script") {
-        None if names => Err(Misuse::NamesOfNoScript),
-        None => Ok(TextRequest::Explain(image)),
-        Some(script) if is_stream(image) && is_stream(script) => {
-            Err(Misuse::TwoOfOneStream(Usage::Explain))
+fn explain_of<'a>(given: &mut Given<'_, 'a>) -> TextRequest<'a> {
+    let image = given.word("IMAGE");
+    let names = given.flag("vars");
+    match given.setting("script") {
+        None => {
+            given.refuse_if(names, Misuse::NamesOfNoScript);
+            TextRequest::Explain(image)
         }
-        Some(script) => Ok(TextRequest::ExplainScript {
-            image,
-            script,
-            names,
-        }),
+        Some(script) => {
+            given.refuse_if(
+                is_stream(image) && is_stream(script),
+                Misuse::TwoOfOneStream,
+            );
+            TextRequest::ExplainScript {
+                image,
+                script,
+                names,
+            }
+        }
     }
 }
 
 /// The chunk that a `put` or a `get` names.
-fn chunk_of<'a>(words: &ArgMatches<'a>, usage: Usage) -> Result<ChunkPath<'a>, Misuse> {
-    Ok(ChunkPath {
-        file: word(words, "FILE"),
-        handle: word_of(words, "H", usage)?,
-        chunk: word_of(words, "C", usage)?,
-        item: words.get_flag("item"),
-    })
+fn chunk_of<'a>(given: &mut Given<'_, 'a>) -> ChunkPath<'a> {
+    ChunkPath {
+        file: given.word("FILE"),
+        handle: given.short("H", Misuse::NoHandle),
+        chunk: given.short("C", Misuse::NoChunk),
+        item: given.flag("item"),
+    }
 }
 
-/// What a `put` asks for.
-fn put_of<'a>(words: &ArgMatches<'a>) -> Result<FileRequest<'a>, Misuse>
-    ensures { IfOk result WorksWithinLimits }
+/// What a `put` asks for. A wrong number is said first.
+fn put_of<'a>(given: &mut Given<'_, 'a>) -> FileRequest<'a>
+    ensures { WorksWithinLimits result }
 {
-    let region = PUT_REGION.of(words)?;
-    let chunk = chunk_of(words, Usage::Put)?;
-    let at = match words.get_str("AT") {
-        Some(_) => Some(word_of(words, "AT", Usage::Put)?),
+    let region = given.number(&REGION);
+    let chunk = chunk_of(given);
+    let at = match given.setting("AT") {
+        Some(_) => Some(given.short("AT", Misuse::NoOffset)),
         None => None,
     };
-    Ok(FileRequest::Put { chunk, at, region })
+    FileRequest::Put { chunk, at, region }
 }
 
-/// What a `get` asks for.
-fn get_of<'a>(words: &ArgMatches<'a>) -> Result<FileRequest<'a>, Misuse>
-    ensures { IfOk result WorksWithinLimits }
+/// What a `get` asks for. A wrong number is said first.
+fn get_of<'a>(given: &mut Given<'_, 'a>) -> FileRequest<'a>
+    ensures { WorksWithinLimits result }
 {
-    let region = GET_REGION.of(words)?;
-    let chunk = chunk_of(words, Usage::Get)?;
-    Ok(FileRequest::Get { chunk, region })
+    let region = given.number(&REGION);
+    FileRequest::Get {
+        chunk: chunk_of(given),
+        region,
+    }
 }
 
 /// What a `map` asks for.
-fn map_of<'a>(words: &ArgMatches<'a>) -> Result<FileRequest<'a>, Misuse>
-    ensures { IfOk result WorksWithinLimits }
+fn map_of<'a>(given: &mut Given<'_, 'a>) -> FileRequest<'a>
+    ensures { WorksWithinLimits result }
 {
-    match WIDTH.of(words) {
-        Ok(width) => Ok(FileRequest::Map {
-            file: word(words, "FILE"),
-            width,
-        }),
-        Err(misuse) => Err(misuse),
+    FileRequest::Map {
+        file: given.word("FILE"),
+        width: given.number(&WIDTH),
     }
 }
 
-/// What a `budget` asks for. What is made of a text takes its place only if that is asked for.
-fn budget_of<'a>(words: &ArgMatches<'a>) -> Result<TextRequest<'a>, Misuse> {
-    let (text, out) = (word(words, "TEXT"), words.get_str("OUT"));
-    let in_place = words.get_flag("in-place");
-    if in_place && (is_stream(text) || out.is_some()) {
-        return Err(Misuse::NotInPlace);
-    }
+/// What a `budget` or a `fmt` writes. What is made of a text takes its place only if that is asked for.
+fn new_text_of<'a>(given: &mut Given<'_, 'a>) -> NewText<'a> {
+    let (text, out) = (given.word("TEXT"), given.setting("OUT"));
+    let in_place = given.flag("in-place");
+    let is_of_stream = is_stream(text);
+    given.refuse_if(
+        in_place && (is_of_stream || out.is_some()),
+        Misuse::NotInPlace,
+    );
     let new = if in_place {
         text
     } else {
         out.unwrap_or(STANDARD)
     };
-    if text == new && !in_place && !is_stream(text) {
-        return Err(Misuse::OntoText("TEXT", Usage::Budget));
-    }
-    Ok(TextRequest::Budget {
+    given.refuse_if(text == new && !in_place && !is_of_stream, Misuse::OntoText);
+    NewText {
         text,
         new,
         in_place,
-    })
-}
-
-/// What a `dump` asks for.
-fn dump_of<'a>(words: &ArgMatches<'a>) -> FileRequest<'a>
-    ensures { WorksWithinLimits result }
-{
-    FileRequest::Dump {
-        file: word(words, "FILE"),
-        chunks: words.get_flag("chunks"),
     }
 }
 
-/// What the words ask for.
-fn request_of<'a>(alloc: Global, matches: &ArgMatches<'a>) -> Result<Request<'a>, Misuse>
-    ensures { IfOk result KeepsLimits }
+/// What a `dump` asks for.
+fn dump_of<'a>(given: &Given<'_, 'a>) -> FileRequest<'a>
+    ensures { WorksWithinLimits result }
 {
-    let Some((name, words)) = matches.subcommand() else {
-        return Ok(Request::Routines(RoutineRequest::Session));
-    };
-    Ok(match name {
-        "call" => Request::Routines(call_of(alloc, words)?),
-        "trace" => Request::Routines(trace_of(alloc, words)?),
-        "run" => Request::Routines(run_of(words)?),
-        "asm" => Request::Text(asm_of(words)?),
-        "budget" => Request::Text(budget_of(words)?),
-        "list" => Request::Text(TextRequest::List(word(words, "IMAGE"))),
-        "explain" => Request::Text(explain_of(words)?),
-        "new" => Request::File(new_of(words)?),
-        "put" => Request::File(put_of(words)?),
-        "get" => Request::File(get_of(words)?),
-        "dump" => Request::File(dump_of(words)),
-        "map" => Request::File(map_of(words)?),
-        _ => Request::Text(TextRequest::Check(word(words, "IMAGE"))),
-    })
+    FileRequest::Dump {
+        file: given.word("FILE"),
+        chunks: given.flag("chunks"),
+    }
+}
+
+/// What the words behind the name of a command ask for.
+fn command_request<'a>(alloc: Global, name: &str, given: &mut Given<'_, 'a>) -> Request<'a>
+    ensures { KeepsLimits result }
+{
+    match name {
+        "call" => Request::Routines(call_of(alloc, given)),
+        "trace" => Request::Routines(trace_of(alloc, given)),
+        "run" => Request::Routines(run_of(given)),
+        "asm" => Request::Text(asm_of(given)),
+        "budget" => Request::Text(TextRequest::Budget(new_text_of(given))),
+        "fmt" => Request::Text(TextRequest::Format(new_text_of(given))),
+        "list" => Request::Text(TextRequest::List(given.word("IMAGE"))),
+        "explain" => Request::Text(explain_of(given)),
+        "new" => Request::File(new_of(given)),
+        "put" => Request::File(put_of(given)),
+        "get" => Request::File(get_of(given)),
+        "dump" => Request::File(dump_of(given)),
+        "map" => Request::File(map_of(given)),
+        _ => Request::Text(TextRequest::Check(given.word("IMAGE"))),
+    }
+}
+
+/// Whether a command can print JSON objects.
+fn has_json(name: &str) -> bool {
+    matches!(
+        name,
+        "call" | "trace" | "asm" | "check" | "explain" | "dump"
+    )
+}
+
+/// What asks for another form than JSON objects, if something does.
+fn other_form(given: &Given<'_, '_>, name: &str) -> Option<Other> {
+    match name {
+        "call" if given.flag("hex") => Some(Other::Hex),
+        "call" if given.flag("signed") => Some(Other::Signed),
+        "call" if given.flag("text") => Some(Other::Text),
+        "call" if given.flag("label") => Some(Other::Label),
+        "trace" if given.setting("html").is_some() => Some(Other::Page),
+        "asm" if is_stream(given.word("OUT")) => Some(Other::Output),
+        "explain" if given.setting("script").is_some() => Some(Other::Script),
+        _ => None,
+    }
+}
+
+/// Whether JSON objects are asked for. Nothing else is printed then, so nothing may ask for another form.
+fn json_of(given: &mut Given<'_, '_>, name: &str, diagnostics: bool) -> bool {
+    if !has_json(name) || !given.flag("json") {
+        return false;
+    }
+    given.refuse_if(diagnostics, Misuse::NotWithJson(Other::Diagnostics));
+    if let Some(other) = other_form(given, name) {
+        given.refuse_if(true, Misuse::NotWithJson(other));
+    }
+    true
 }
 
 /// The words with their control characters by their bytes.
@@ -466,24 +490,43 @@ fn answer_to_control(alloc: Global, words: &[String], error: &Error) -> Answer {
 
 /// What words are answered in which `clap` finds no request.
 fn answer_to(alloc: Global, words: &[String], error: &Error) -> Answer {
-    if words.iter().any(|word| has_control(word.as_str())) {
-        answer_to_control(alloc, words, error)
-    } else {
-        Answer::of(alloc, error)
+    for word in words {
+        if has_control(word.as_str()) {
+            return answer_to_control(alloc, words, error);
+        }
     }
+    Answer::of(alloc, error)
 }
 
-/// The request of the words, and what is reported beside its faults.
-fn asked_of<'a>(alloc: Global, matches: &ArgMatches<'a>) -> Result<Asked<'a>, Misuse>
+/// The request of the words, and what is reported beside its faults. An error is what they are answered if something is wrong with them.
+fn asked_of<'a>(alloc: Global, matches: &ArgMatches<'a>) -> Result<Asked<'a>, Answer>
     ensures { IfOk result (λ asked. KeepsLimits asked.request) }
 {
-    let request = request_of(alloc, matches)?;
-    Ok(Asked {
-        request,
-        grants: grants_of(matches),
-        diagnostics: matches.get_flag(DIAGNOSTICS.name),
-        no_warnings: matches.get_flag(NO_WARNINGS.name),
-    })
+    let diagnostics = matches.get_flag("diagnostics");
+    let no_warnings = matches.get_flag("no-warnings");
+    let Some((name, words)) = matches.subcommand() else {
+        return Ok(Asked {
+            request: Request::Routines(RoutineRequest::Session),
+            limits: RunLimits::none(),
+            diagnostics,
+            no_warnings,
+            json: false,
+        });
+    };
+    let mut given = Given::new(words);
+    let request = command_request(alloc, name, &mut given);
+    let limits = RunLimits::of(&mut given, name);
+    let json = json_of(&mut given, name, diagnostics);
+    match given.misuse() {
+        None => Ok(Asked {
+            request,
+            limits,
+            diagnostics,
+            no_warnings,
+            json,
+        }),
+        Some(misuse) => Err(misuse.answer(alloc, name)),
+    }
 }
 
 /// What the words after the program's name ask for. An error is the answer to words that ask for nothing to be done.
@@ -491,7 +534,7 @@ pub fn requested<'a>(alloc: Global, words: &'a [String]) -> Result<Asked<'a>, An
     ensures { IfOk result (λ asked. KeepsLimits asked.request) }
 {
     match matches_of(alloc, words) {
-        Ok(matches) => asked_of(alloc, &matches).map_err(|misuse| misuse.answer(alloc)),
+        Ok(matches) => asked_of(alloc, &matches),
         Err(error) => Err(answer_to(alloc, words, &error)),
     }
 }

@@ -1,12 +1,13 @@
 //! What is read of files and of the standard input, and written to them or to the standard output.
 
+use crate::colours::{self, coloured};
 use crate::output::{keep_from_image, keep_from_output};
 use crate::parts::PartFault;
 use crate::printable::{Named, for_terminal};
 use crate::reason::Reason;
 use crate::replace::replace;
 use crate::reported::Diagnosed;
-use std::alloc::Global;
+use std::alloc::{AllocError, Global};
 use std::io::{ErrorKind, IsTerminal, Read, Write};
 use std::{fs, io};
 use thiserror::Error;
@@ -125,9 +126,18 @@ pub fn print_lines<'a>(rt: &HostRuntime, text: &[u8]) -> Result<(), StreamFault<
     }
 }
 
-/// Appends lines to standard error, with control characters by their bytes. If that fails, the status alone tells.
+/// Diagnostics with control characters by their bytes, in colours if they are wanted.
+fn shown(rt: &HostRuntime, lines: &[u8]) -> Result<String, AllocError> {
+    let shown = for_terminal(rt.alloc(), lines)?;
+    if colours::are_wanted(rt) {
+        return coloured(rt.alloc(), shown.as_str());
+    }
+    Ok(shown)
+}
+
+/// Appends diagnostics to standard error, with control characters by their bytes. If that fails, only the status tells.
 pub fn tell(rt: &HostRuntime, lines: &[u8]) {
-    if let Ok(shown) = for_terminal(rt.alloc(), lines) {
+    if let Ok(shown) = shown(rt, lines) {
         let _ = eprint!(rt; "{shown}");
     }
 }
