@@ -3,10 +3,12 @@
 
 ghost use Rattle.geos_shell.specs.Limits.{KeepsLimits};
 
+mod json;
 mod requests;
 
 use geos_shell::{Answer, Asked, Reported, keep_stream_numbers, report, requested, words};
 use geos_topics::topic_of;
+use json::print_end;
 use requests::carry_out;
 use std::fmt::Display;
 use std::process::ExitCode;
@@ -25,6 +27,21 @@ fn answered(rt: &HostRuntime, words: &[String], answer: &Answer) -> ExitCode {
     }
 }
 
+/// Prints the last JSON object, and returns the program's status.
+fn ended(rt: &HostRuntime, done: Result<(), Reported>) -> ExitCode {
+    match done {
+        Ok(()) => match print_end(rt, 0) {
+            Ok(()) => ExitCode::SUCCESS,
+            Err(fault) => fail(rt, fault),
+        },
+        Err(Reported) => {
+            // Standard error has the fault.
+            let _ = print_end(rt, 1);
+            ExitCode::FAILURE
+        }
+    }
+}
+
 /// Carries out a request, and returns the program's status.
 fn run_request(rt: &HostRuntime, asked: Asked) -> ExitCode
     requires { KeepsLimits asked.request }
@@ -34,7 +51,11 @@ fn run_request(rt: &HostRuntime, asked: Asked) -> ExitCode
         return ExitCode::FAILURE;
     }
     let reports = asked.reports(rt);
-    match carry_out(rt, reports, asked.request, asked.grants) {
+    let done = carry_out(rt, reports, asked.request, &asked.limits);
+    if reports.json {
+        return ended(rt, done);
+    }
+    match done {
         Ok(()) => ExitCode::SUCCESS,
         Err(Reported) => ExitCode::FAILURE,
     }

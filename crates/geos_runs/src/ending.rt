@@ -2,6 +2,7 @@
 
 use crate::fault::RunFault;
 use crate::manner::Manner;
+use crate::objects::print_lost;
 use geos_kernel::Kernel;
 use geos_shell::{EndCommit, Named, tell};
 use geos_terms::Refusal;
@@ -18,10 +19,13 @@ fn changed_blocks(kernel: &Kernel<FileDevice>) -> usize {
 }
 
 /// Reports changed blocks of the file with the path that no commit has kept, as a diagnostic.
-fn tell_of_lost(rt: &HostRuntime, path: &str, kernel: &Kernel<FileDevice>) {
+fn tell_of_lost(rt: &HostRuntime, manner: &Manner, path: &str, kernel: &Kernel<FileDevice>) {
     let changed = changed_blocks(kernel);
     if changed == 0 {
         return;
+    }
+    if manner.json {
+        return print_lost(rt, path, changed);
     }
     let path = Named(path);
     if let Ok(note) = format!(in rt.alloc();
@@ -44,7 +48,7 @@ pub(crate) fn ended<'a>(
         Some(EndCommit::Save) if done.is_ok() => How::Save,
         _ => {
             if manner.wants_notes {
-                tell_of_lost(rt, path, kernel);
+                tell_of_lost(rt, manner, path, kernel);
             }
             return done;
         }

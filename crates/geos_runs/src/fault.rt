@@ -21,7 +21,7 @@ pub enum RunFault<'a> {
     /// The line of a script that runs strictly, counted from 1, is a command that was refused.
     #[error("line {0}: refused {1}")]
     Refused(usize, u16),
-    /// A call of the kernel on a chunk was refused.
+    /// A call of the kernel on a chunk was refused, or a block that a routine borrows.
     #[error("refused {0}")]
     NotDone(u16),
     /// No public routine has the name that a call gives.

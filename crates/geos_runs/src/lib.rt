@@ -9,13 +9,17 @@ mod chunks;
 mod ending;
 mod fault;
 mod manner;
+mod objects;
+mod paging;
 mod running;
+mod step_objects;
 mod tracing;
 
 pub use calling::call;
 pub use chunks::{get, put};
 pub use fault::RunFault;
 pub use manner::Manner;
+pub use paging::Shown;
 pub use running::{run, session};
 pub use tracing::{Traceable, trace};
 

@@ -3,6 +3,7 @@
 ghost use Rattle.vm_blocks.specs.Listed.{NoneLocked};
 
 use crate::fault::RunFault;
+use crate::objects::{print_call_objects, print_script_objects};
 use geos_cli::{
     CallFault, Counted, EarlyEnd, Form, Mode, RefusedCommand, ScriptFault, Writing, run_call,
     run_call_in_form, run_script_in_form, run_script_in_mode, run_script_with_names,
@@ -28,6 +29,8 @@ pub struct Manner {
     pub commit: Option<EndCommit>,
     /// Whether changed blocks of a file that no commit has kept are reported.
     pub wants_notes: bool,
+    /// Whether outputs and notes are JSON objects.
+    pub json: bool,
 }
 
 /// Standard output through a buffer, with what is asked of it counted. `ScriptFault::Memory` if there is no memory for the buffer.
@@ -74,7 +77,7 @@ fn run_script_in<W: Write, D: Device + Drop>(
 }
 
 /// The same of a script whose lines may write names, if they may.
-fn run_lines_in<W: Write, D: Device + Drop>(
+pub(crate) fn run_lines_in<W: Write, D: Device + Drop>(
     rt: &HostRuntime,
     manner: &Manner,
     image: &[u8],
@@ -106,9 +109,17 @@ pub(crate) fn run_script_on<'a, D: Device + Drop>(
 ) -> Result<(), RunFault<'a>>
     requires { NoneLocked kernel.old.core.blocks }
 {
+    if manner.json {
+        return print_script_objects(rt, manner, image, script, kernel);
+    }
     let mut out = output(rt)?;
     let end = run_lines_in(rt, manner, image, script, kernel, &mut out)?;
     out.flush().map_err(|_| ScriptFault::Write)?;
+    came_to(end)
+}
+
+/// The fault of a script that ended at a line.
+pub(crate) fn came_to<'a>(end: Option<EarlyEnd>) -> Result<(), RunFault<'a>> {
     match end {
         None => Ok(()),
         Some(EarlyEnd::Refused(RefusedCommand { line, refusal })) => {
@@ -126,7 +137,7 @@ fn run_call_in<W: Write, D: Device + Drop>(
     call: &CallWords<'_>,
     kernel: &mut Kernel<D>,
     out: &mut Counted<W>,
-) -> Result<(), CallFault>
+) -> Result<Option<RefusedCommand>, CallFault>
     requires { NoneLocked kernel.old.core.blocks }
 {
     let alloc = rt.alloc();
@@ -150,7 +161,7 @@ pub(crate) fn call_fault<'a>(call: &CallWords<'a>, fault: CallFault) -> RunFault
     }
 }
 
-/// As `run_call_in`, on standard output.
+/// As `run_call_in`, on standard output. `RunFault::NotDone` if a block that the routine borrows can't be lent.
 pub(crate) fn run_call_on<'a, D: Device + Drop>(
     rt: &HostRuntime,
     manner: &Manner,
@@ -160,13 +171,19 @@ pub(crate) fn run_call_on<'a, D: Device + Drop>(
 ) -> Result<(), RunFault<'a>>
     requires { NoneLocked kernel.old.core.blocks }
 {
-    let mut out = output(rt)?;
-    match run_call_in(rt, &manner.form, image, call, kernel, &mut out) {
-        Ok(()) => {}
-        Err(fault) => return Err(call_fault(call, fault)),
+    if manner.json {
+        return print_call_objects(rt, image, call, kernel);
     }
-    match out.flush() {
-        Ok(()) => Ok(()),
-        Err(_) => Err(RunFault::Session(ScriptFault::Write)),
+    let mut out = output(rt)?;
+    let refused = match run_call_in(rt, &manner.form, image, call, kernel, &mut out) {
+        Ok(refused) => refused,
+        Err(fault) => return Err(call_fault(call, fault)),
+    };
+    match (out.flush(), refused) {
+        (Ok(()), None) => Ok(()),
+        (Ok(()), Some(RefusedCommand { line: _, refusal })) => {
+            Err(RunFault::NotDone(refusal.number()))
+        }
+        (Err(_), _) => Err(RunFault::Session(ScriptFault::Write)),
     }
 }

@@ -5,6 +5,9 @@ ghost use Rattle.geos_shell.specs.Limits.{IsRegion};
 
 use crate::fault::RunFault;
 use crate::manner::call_fault;
+use crate::objects::refused_object;
+use crate::paging::{Shown, page_on};
+use crate::step_objects::trace_objects;
 use geos_cli::{ScriptFault, TraceFault, TracedCall, trace_call};
 use geos_files::{Locked, opened, wait_for};
 use geos_image::Image;
@@ -21,10 +24,14 @@ pub struct Traceable<'a> {
     pub image: &'a [u8],
     /// For each pc the number of its line, counted from 1, if the image was made from a text.
     pub lines: Option<&'a [u32]>,
+    /// What a page shows of them, if one is wanted.
+    pub shown: Option<Shown<'a>>,
+    /// Whether JSON objects are printed.
+    pub json: bool,
 }
 
 /// The budget of the routine that was called.
-fn budget_of(image: &Image, routine: u16) -> u32 {
+pub(crate) fn budget_of(image: &Image, routine: u16) -> u32 {
     if routine < image.count() {
         image.routine(routine).budget
     } else {
@@ -33,7 +40,7 @@ fn budget_of(image: &Image, routine: u16) -> u32 {
 }
 
 /// What is printed of a call that was traced.
-fn text_of(
+pub(crate) fn text_of(
     alloc: Global,
     words: &TraceWords<'_>,
     lines: Option<&[u32]>,
@@ -51,14 +58,14 @@ fn text_of(
 }
 
 /// What is printed of a call of which a block could not be locked.
-fn refused_text(alloc: Global, refusal: u16) -> Result<Vec<u8>, AllocError> {
+pub(crate) fn refused_text(alloc: Global, refusal: u16) -> Result<Vec<u8>, AllocError> {
     let mut out = Vec::new(alloc);
     put_refused(&mut out, refusal)?;
     Ok(out)
 }
 
 /// The fault of a traced call, by what is wrong.
-fn trace_fault<'a>(words: &TraceWords<'a>, fault: TraceFault) -> RunFault<'a> {
+pub(crate) fn trace_fault<'a>(words: &TraceWords<'a>, fault: TraceFault) -> RunFault<'a> {
     match fault {
         TraceFault::Call(fault) => call_fault(&words.call, fault),
         TraceFault::NoRoutine => RunFault::NoSuchRoutine(words.only.unwrap_or("")),
@@ -74,6 +81,9 @@ fn trace_on<'a, D: Device + Drop>(
 ) -> Result<(), RunFault<'a>>
     requires { NoneLocked kernel.old.core.blocks }
 {
+    if let (Some(shown), Some(path)) = (&traceable.shown, words.page) {
+        return page_on(rt, words, traceable, shown, path, kernel);
+    }
     let alloc = rt.alloc();
     let most = if words.count { 0 } else { words.steps as usize };
     let CallWords { name, words: given } = &words.call;
@@ -90,6 +100,8 @@ fn trace_on<'a, D: Device + Drop>(
         Err(fault) => return Err(trace_fault(words, fault)),
     };
     let text = match traced {
+        Ok(traced) if traceable.json => trace_objects(alloc, words, traceable.lines, &traced),
+        Err(refusal) if traceable.json => refused_object(alloc, refusal.number()),
         Ok(traced) => text_of(alloc, words, traceable.lines, &traced),
         Err(refusal) => refused_text(alloc, refusal.number()),
     };

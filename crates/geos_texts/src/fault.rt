@@ -68,6 +68,12 @@ pub enum TextFault<'a> {
     /// An image of version 1 is wanted of a source.
     #[error("--all-rows requires an assembly text")]
     AllRowsOfSource,
+    /// An assembly text is wanted, and a source or an image is given.
+    #[error("fmt requires an assembly text")]
+    NoText,
+    /// A text is longer than a text may be.
+    #[error("a text has at most 1,048,576 bytes")]
+    LongText,
     /// The bytes are no image.
     #[error(transparent)]
     Read(#[from] ReadError),
@@ -83,6 +89,9 @@ pub enum TextFault<'a> {
     /// A public routine does what is not granted: which one, what, and where.
     #[error("refused: {}", .0)]
     NotGranted(String),
+    /// The budget of a public routine is above the number that is allowed.
+    #[error("refused: the budget of {} is {}", .0, .1)]
+    OverLimit(String, u32),
     /// The verifier refuses an image that was explained.
     #[error(transparent)]
     Explained(Reject),

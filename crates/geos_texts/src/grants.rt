@@ -1,4 +1,4 @@
-//! Whether routines do only what is granted.
+//! Whether routines do only what is granted, and take only so many steps.
 
 use crate::fault::TextFault;
 use crate::runnable::Runnable;
@@ -55,4 +55,36 @@ pub fn keep_to_grants<'a>(
         Ok(text) => Err(TextFault::NotGranted(text)),
         Err(_) => Err(TextFault::Read(ReadError::Memory)),
     }
+}
+
+/// The name of a routine as a text.
+fn text_of(alloc: Global, name: &[u8]) -> Result<String, ReadError> {
+    match String::from_utf8(Vec::from_slice(alloc, name)?) {
+        Ok(text) => Ok(text),
+        Err(_) => Ok(String::new(alloc)),
+    }
+}
+
+/// Tests that no public routine has a budget above a number; of a call, only the routine that it names is tested. `TextFault::OverLimit`
+/// names the first that has.
+pub fn keep_to_steps<'a>(
+    rt: &HostRuntime,
+    routines: &Runnable<'a>,
+    called: Option<&str>,
+    most: u32,
+) -> Result<(), TextFault<'a>> {
+    let image = geos_image::read(rt.alloc(), &routines.image)?;
+    for r in 0..image.count() {
+        let routine = image.routine(r);
+        let name = routine.name_text();
+        let is_meant = match called {
+            Some(called) => called.as_bytes() == name,
+            None => true,
+        };
+        if routine.public && is_meant && routine.budget > most {
+            let name = text_of(rt.alloc(), name)?;
+            return Err(TextFault::OverLimit(name, routine.budget));
+        }
+    }
+    Ok(())
 }

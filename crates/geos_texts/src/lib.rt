@@ -12,9 +12,10 @@ mod runnable;
 mod sources;
 
 pub use fault::{FaultyText, Refused, TextFault};
-pub use grants::keep_to_grants;
+pub use grants::{keep_to_grants, keep_to_steps};
 pub use requests::{
-    assemble, assemble_all, budget, check, explain, explain_script, list, read_and_warn,
+    KnownLines, assemble, assemble_all, budget, check, explain, explain_script, format,
+    known_lines, list, read_and_warn,
 };
 pub use runnable::Runnable;
 pub use sources::FaultySource;

@@ -12,9 +12,10 @@ use geos_asm::{AssembleError, BudgetError, Budgeted, completed, find_budgets};
 use geos_image::Image;
 use geos_input::{MOST_BYTES, ScriptFault};
 use geos_scripts::{BadLines, NameUse, tell_bad_lines};
-use geos_shell::{Reports, StreamFault, print, print_lines, read, tell, write};
+use geos_shell::{NewText, Reports, STANDARD, StreamFault, print, print_lines, read, tell, write};
 use geos_verify::{Reject, check as check_image};
 use std::alloc::Global;
+use text_format::formatted;
 
 /// The most bytes that are read of a file: one more than a text may have, and more than any image has.
 pub(crate) const MOST_READ: u64 = MOST_BYTES as u64 + 1;
@@ -37,17 +38,18 @@ pub fn assemble_all<'a>(
     }
 }
 
-/// Writes the image of a text to the path `image`, with rows at its key places, and reports warnings, if they are wanted. The faults are
-/// those of `geos_asm::assemble` and of the two streams.
+/// Writes the image of a text to the path `image`, with rows at its key places, and reports warnings, if they are wanted. Returns what was
+/// written. The faults are those of `geos_asm::assemble` and of the two streams.
 pub fn assemble<'a>(
     rt: &HostRuntime,
     reports: Reports,
     text: &'a str,
     image: &'a str,
-) -> Result<(), TextFault<'a>> {
+) -> Result<Runnable<'a>, TextFault<'a>> {
     if is_source(text) {
         let made = Runnable::read(rt, text)?;
-        return Ok(write(rt, image, &made.image, text)?);
+        write(rt, image, &made.image, text)?;
+        return Ok(made);
     }
     let bytes = read(rt, text, MOST_READ)?;
     match made_of_text(rt.alloc(), &bytes) {
@@ -58,7 +60,8 @@ pub fn assemble<'a>(
                 lines: made.lines,
             };
             warn(rt, reports, &made);
-            Ok(write(rt, image, &made.image, text)?)
+            write(rt, image, &made.image, text)?;
+            Ok(made)
         }
         Err(fault) => Err(not_assembled(text, bytes, fault)),
     }
@@ -66,7 +69,7 @@ pub fn assemble<'a>(
 
 /// Reports the warnings about a text, if they are wanted.
 fn warn(rt: &HostRuntime, reports: Reports, image: &Runnable<'_>) {
-    if reports.warnings {
+    if reports.warnings && !reports.json {
         tell(rt, &image.warnings(rt.alloc()));
     }
 }
@@ -116,20 +119,35 @@ fn accepted_with_least<'a>(
     }
 }
 
-/// Writes a text with the least budget of each routine to the path `new`, which is that of the text if it is changed in place.
-/// `TextFault::Budget` if no budgets are enough, and `TextFault::Refused` if the verifier refuses the text with them; then nothing is
+/// Writes a text that was made of another one. A text in whose place it goes does not have to stay.
+fn write_new<'a>(rt: &HostRuntime, paths: NewText<'a>, made: &[u8]) -> Result<(), TextFault<'a>> {
+    let source = if paths.in_place { "" } else { paths.text };
+    Ok(write(rt, paths.new, made, source)?)
+}
+
+/// Writes a text with its labels, instructions and comments in columns. `TextFault::NoText` of a source or an image, and
+/// `TextFault::LongText` of more than 1,048,576 bytes; then nothing is written.
+pub fn format<'a>(rt: &HostRuntime, paths: NewText<'a>) -> Result<(), TextFault<'a>> {
+    let text = read(rt, paths.text, MOST_READ)?;
+    if is_source(paths.text) || begins_as_image(&text) {
+        return Err(TextFault::NoText);
+    }
+    // What is read of a longer text is not all of it.
+    if text.len() > MOST_BYTES {
+        return Err(TextFault::LongText);
+    }
+    match formatted(rt.alloc(), &text) {
+        Ok(made) => write_new(rt, paths, &made),
+        Err(_) => Err(TextFault::Stream(StreamFault::Memory)),
+    }
+}
+
+/// Writes a text with the least budget of each routine. `TextFault::Budget` if no budgets are enough, and `TextFault::Refused` if the verifier refuses the text with them; then nothing is
 /// written.
-pub fn budget<'a>(
-    rt: &HostRuntime,
-    text: &'a str,
-    new: &'a str,
-    in_place: bool,
-) -> Result<(), TextFault<'a>> {
-    let bytes = read(rt, text, MOST_READ)?;
-    let made = accepted_with_least(rt.alloc(), text, bytes)?;
-    // A text that is changed in place is no source that has to stay.
-    let source = if in_place { "" } else { text };
-    Ok(write(rt, new, &made, source)?)
+pub fn budget<'a>(rt: &HostRuntime, paths: NewText<'a>) -> Result<(), TextFault<'a>> {
+    let bytes = read(rt, paths.text, MOST_READ)?;
+    let made = accepted_with_least(rt.alloc(), paths.text, bytes)?;
+    write_new(rt, paths, &made)
 }
 
 /// Reads what a path names, as `Runnable::read`, and reports the warnings about a text, if they are wanted.
@@ -193,6 +211,35 @@ fn explained<'a>(rt: &HostRuntime, bytes: &[u8]) -> Result<Explained, TextFault<
     } else {
         explained_text(rt, bytes)
     }
+}
+
+/// Lines with what is known at each instruction.
+#[derive(Drop)]
+pub struct KnownLines {
+    /// The lines, as `explain` prints them.
+    pub lines: Vec<u8>,
+    /// Whether they are lines of a text, and not of the listing of an image.
+    pub of_text: bool,
+}
+
+/// What is known at each line of the text of an image, which is read again; or at each line of the listing, if the image was not made of a
+/// text with a path.
+pub fn known_lines<'a>(
+    rt: &HostRuntime,
+    routines: &Runnable<'a>,
+) -> Result<KnownLines, TextFault<'a>> {
+    let path = routines.path;
+    if routines.lines.is_none() || path == STANDARD || is_source(path) {
+        return Ok(KnownLines {
+            lines: explain_bytes(rt.alloc(), &routines.image)?.text,
+            of_text: false,
+        });
+    }
+    let text = read_completed(rt, path)?;
+    Ok(KnownLines {
+        lines: explained_text(rt, &text)?.text,
+        of_text: true,
+    })
 }
 
 /// Prints the listing of an image, or the lines of a text, with what is known at each instruction. After that, `TextFault::Explained` if

@@ -1,0 +1,160 @@
+//! Findings and faults as JSON objects on the standard output.
+
+use geos_json::JsonLines;
+use geos_shell::{Diagnosed, Reported, Reports, StreamFault, done_or_reported, print};
+use geos_texts::{FaultySource, Runnable, TextFault, assemble, assemble_all};
+use geos_verify::Reject;
+use json_findings::{Finding, Severity, Source, put_finding, put_judged, put_why_no_image};
+use std::alloc::{AllocError, Global};
+use std::fmt::Display;
+
+/// Prints objects.
+fn print_objects<'a>(rt: &HostRuntime, objects: JsonLines) -> Result<(), StreamFault<'a>> {
+    match objects.finish() {
+        Ok(lines) => print(rt, &lines),
+        Err(_) => Err(StreamFault::Memory),
+    }
+}
+
+/// Prints the line of a fault as an object.
+fn print_fault<F: Display>(rt: &HostRuntime, fault: &F) {
+    let mut objects = JsonLines::new(rt.alloc());
+    objects.begin("fault");
+    match format!(in rt.alloc(); "{fault}") {
+        Ok(message) => objects.text("message", message.as_bytes()),
+        Err(_) => objects.null("message"),
+    }
+    objects.end();
+    // If the standard output fails, standard error tells.
+    let _ = print_objects(rt, objects);
+}
+
+/// What was done. A fault is reported instead, and if JSON is asked for, it is an object too.
+pub(crate) fn done<T: Drop, F: Diagnosed + Display + Drop>(
+    rt: &HostRuntime,
+    reports: Reports,
+    done: Result<T, F>,
+) -> Result<T, Reported> {
+    if reports.json
+        && let Err(fault) = &done
+    {
+        print_fault(rt, fault);
+    }
+    done_or_reported(rt, reports, done)
+}
+
+/// Prints that all is done, and with which status.
+pub(crate) fn print_end(rt: &HostRuntime, status: u64) -> Result<(), StreamFault<'static>> {
+    let mut objects = JsonLines::new(rt.alloc());
+    objects.begin("end");
+    objects.number("status", status);
+    objects.end();
+    print_objects(rt, objects)
+}
+
+/// The fault of a source.
+fn put_source(
+    alloc: Global,
+    out: &mut JsonLines,
+    fault: &FaultySource<'_>,
+) -> Result<(), AllocError> {
+    put_finding(
+        alloc,
+        out,
+        &Finding {
+            severity: Severity::Error,
+            file: fault.path,
+            line: Some(fault.line as u64),
+            column: Some(fault.column as u64),
+            at: None,
+            message: &fault.sentence,
+        },
+    )
+}
+
+/// Why a text or an image was not read.
+fn put_fault(alloc: Global, out: &mut JsonLines, fault: &TextFault<'_>) -> Result<(), AllocError> {
+    match fault {
+        TextFault::Assemble(text) => put_why_no_image(alloc, out, text.path, &text.text),
+        TextFault::Source(source) => put_source(alloc, out, source),
+        _ => Ok(()),
+    }
+}
+
+/// An image that was read, and its first refusal.
+#[derive(Drop)]
+struct Judged<'a> {
+    image: Runnable<'a>,
+    reject: Option<Reject>,
+}
+
+/// Prints what is found in an image that was read, or why none was, and returns the image and its first refusal.
+fn told<'a>(
+    rt: &HostRuntime,
+    reports: Reports,
+    read: Result<Runnable<'a>, TextFault<'a>>,
+) -> Result<Judged<'a>, TextFault<'a>> {
+    let alloc = rt.alloc();
+    let mut out = JsonLines::new(alloc);
+    match read {
+        Ok(image) => {
+            let source = Source {
+                file: image.path,
+                lines: image.lines().unwrap_or(&[]),
+                warns: reports.warnings,
+            };
+            let reject = put_judged(alloc, &mut out, &source, &image.image)?;
+            print_objects(rt, out)?;
+            Ok(Judged { image, reject })
+        }
+        Err(fault) => {
+            if put_fault(alloc, &mut out, &fault).is_ok() {
+                print_objects(rt, out)?;
+            }
+            Err(fault)
+        }
+    }
+}
+
+/// Reads what a path names, as `Runnable::read`, and prints what is found in it.
+pub(crate) fn read_and_tell<'a>(
+    rt: &HostRuntime,
+    reports: Reports,
+    path: &'a str,
+) -> Result<Runnable<'a>, TextFault<'a>> {
+    let judged = told(rt, reports, Runnable::read(rt, path))?;
+    Ok(judged.image)
+}
+
+/// The same, and `TextFault::Explained` if the verifier refuses the image.
+pub(crate) fn check_and_tell<'a>(
+    rt: &HostRuntime,
+    reports: Reports,
+    path: &'a str,
+) -> Result<(), TextFault<'a>> {
+    let judged = told(rt, reports, Runnable::read(rt, path))?;
+    match judged.reject {
+        None => Ok(()),
+        Some(reject) => Err(TextFault::Explained(reject)),
+    }
+}
+
+/// Writes the image of a text, as `assemble` and `assemble_all` do, and prints what is found in it.
+pub(crate) fn assemble_and_tell<'a>(
+    rt: &HostRuntime,
+    reports: Reports,
+    text: &'a str,
+    image: &'a str,
+    all_rows: bool,
+) -> Result<(), TextFault<'a>> {
+    let made = if all_rows {
+        match assemble_all(rt, text, image) {
+            Ok(()) => return Ok(()),
+            Err(fault) => Err(fault),
+        }
+    } else {
+        assemble(rt, reports, text, image)
+    };
+    told(rt, reports, made)?;
+    Ok(())
+}

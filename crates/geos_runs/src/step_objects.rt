@@ -1,0 +1,112 @@
+//! The notes on a run as JSON objects.
+
+use crate::objects::put_outcome;
+use geos_cli::TracedCall;
+use geos_image::{Image, Instr};
+use geos_json::JsonLines;
+use geos_listing::put_code;
+use geos_machine::{Left, Noted};
+use geos_shell::TraceWords;
+use geos_trace::put_done;
+use std::alloc::{AllocError, Global};
+
+/// What is traced: an image, and of a text the line of each instruction.
+#[derive(Clone, Copy)]
+struct Traced<'i, 'l> {
+    alloc: Global,
+    image: &'i Image,
+    lines: Option<&'l [u32]>,
+}
+
+impl<'i> Traced<'i, '_> {
+    /// Where an instruction is, and the instruction.
+    fn put_place(&self, objects: &mut JsonLines, pc: u16) -> Result<(), AllocError> {
+        let line = match self.lines {
+            Some(lines) => lines.get(usize::from(pc)).map(|line| u64::from(*line)),
+            None => None,
+        };
+        objects.number_or_null("line", line);
+        objects.text("routine", self.routine_of(pc));
+        objects.number("pc", u64::from(pc));
+        let mut code = Vec::new(self.alloc);
+        if pc < self.image.len() {
+            put_code(&mut code, self.image, self.image.instr(pc))?;
+        }
+        objects.text("text", code.trim_ascii());
+        Ok(())
+    }
+
+    /// The name of the routine that an instruction is in.
+    fn routine_of(&self, pc: u16) -> &'i [u8] {
+        let mut found = 0;
+        for r in 0..self.image.count() {
+            if self.image.start(r) <= pc {
+                found = r;
+            }
+        }
+        if found < self.image.count() {
+            self.image.routine(found).name_text()
+        } else {
+            &[]
+        }
+    }
+
+    /// A step.
+    fn put_step(
+        &self,
+        objects: &mut JsonLines,
+        number: u64,
+        noted: &Noted,
+    ) -> Result<(), AllocError> {
+        objects.begin("step");
+        objects.number("step", number);
+        self.put_place(objects, noted.pc)?;
+        let mut done = Vec::new(self.alloc);
+        if noted.pc < self.image.len() {
+            put_done(&mut done, self.image.instr(noted.pc), noted)?;
+        }
+        objects.text("did", done.trim_ascii());
+        objects.numbers("words", &noted.words);
+        objects.numbers("counters", &noted.counters);
+        objects.end();
+        Ok(())
+    }
+
+    /// How often an instruction ran.
+    fn put_count(&self, objects: &mut JsonLines, pc: u16, count: u32) -> Result<(), AllocError> {
+        objects.begin("count");
+        objects.number("count", u64::from(count));
+        self.put_place(objects, pc)?;
+        objects.end();
+        Ok(())
+    }
+}
+
+/// What is printed of a call that was traced: its steps, or how often each instruction ran; then its outputs and the number of its steps.
+pub(crate) fn trace_objects(
+    alloc: Global,
+    words: &TraceWords<'_>,
+    lines: Option<&[u32]>,
+    call: &TracedCall,
+) -> Result<Vec<u8>, AllocError> {
+    let image = call.checked.image();
+    let traced = Traced {
+        alloc,
+        image,
+        lines,
+    };
+    let mut objects = JsonLines::new(alloc);
+    if words.count {
+        for pc in 0..image.len() {
+            traced.put_count(&mut objects, pc, call.trace.count(pc))?;
+        }
+    } else {
+        let mut number: u64 = 0;
+        for noted in call.trace.steps() {
+            number = number.saturating_add(1);
+            traced.put_step(&mut objects, number, noted)?;
+        }
+    }
+    put_outcome(&mut objects, call);
+    objects.finish()
+}
