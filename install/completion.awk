@@ -26,6 +26,11 @@ function quoted(text) {
     return "'" text "'"
 }
 
+# What prints the names of the public routines of a text, the word of the shell `file`.
+function routines(file) {
+    return "sed -n 's/^[ \t]*routine[ \t][ \t]*\\([A-Za-z0-9_]*\\)[ \t].*public.*/\\1/p; s/^pub fn \\([A-Za-z0-9_]*\\).*/\\1/p' " file " 2>/dev/null"
+}
+
 # The commands' names.
 function all_commands(   i, out) {
     for (i = 1; i <= commands; i++) out = out (i == 1 ? "" : " ") name[i]
@@ -38,6 +43,8 @@ function print_bash(   i) {
     print "    case $COMP_CWORD:${COMP_WORDS[1]} in"
     print "    1:*) words=" quoted(all_commands()) " flags=" quoted(flags_of[""]) " ;;"
     print "    2:help) words=" quoted(all_commands()) " ;;"
+    for (i = 1; i <= commands; i++) if (name[i] ~ /^(call|trace)$/)
+        print "    3:" name[i] ") words=$(" routines("\"${COMP_WORDS[2]}\"") ") flags=" quoted(flags_of[name[i]]) " ;;"
     for (i = 1; i <= commands; i++) print "    *:" name[i] ") flags=" quoted(flags_of[name[i]]) " ;;"
     print "    esac"
     print "    case $2 in -*) words=$flags ;; esac"
@@ -70,6 +77,8 @@ function print_zsh(   i) {
     print "    _describe -o flag flags"
     print "elif [[ $CURRENT == 2 || $CURRENT:$words[2] == 3:help ]]; then"
     print "    _describe command commands"
+    print "elif [[ $CURRENT:$words[2] == 4:(call|trace) ]]; then"
+    print "    compadd -- $(" routines("\"$words[3]\"") ")"
     print "else"
     print "    _files"
     print "fi"
@@ -79,6 +88,7 @@ function print_fish(   i, j, count, word, line) {
     for (i = 1; i <= commands; i++)
         print "complete -c " program " -n __fish_use_subcommand -f -a " name[i] " -d " quoted(about[i])
     print "complete -c " program " -n '__fish_seen_subcommand_from help' -f -a " quoted(all_commands())
+    print "complete -c " program " -n '__fish_seen_subcommand_from call trace' -a \"(" routines("(commandline -opc)[3]") ")\""
     for (i = 1; i <= flags; i++) {
         line = "complete -c " program " -n " (of[i] == "" ? "__fish_use_subcommand" : quoted("__fish_seen_subcommand_from " of[i]))
         count = split(spelt[i], word, " ")

@@ -46,6 +46,9 @@ completed geos "" | tr ' ' '\n' | cmp - "$folder/commands"
 completed geos help ru
 completed geos run --
 completed geos run x
+completed geos call "$top/examples/records.asm" ""
+completed geos trace "$top/examples/records.tkv" s
+completed geos call "$top/examples/records.asm" --upd
 for shell in zsh fish; do
     ! command -v "$shell" >/dev/null || "$shell" -n "$root"/usr/share/$shell/*/*geos* 2>&1
 done
