@@ -1,4 +1,4 @@
-"""Draws the figures of docs/CONCEPTS.md as SVG files, from data of the repository.
+"""Draws the figures of docs/ as SVG files, from data of the repository.
 
     python3 tools/figures.py [FOLDER]
 
@@ -214,10 +214,32 @@ def pipeline() -> str:
     return drawing.svg(190)
 
 
+def host() -> str:
+    drawing = Drawing("A commit through the library: the kernel notes steps, and the host performs them on the file")
+    boxes = (
+        ("program", ["calls", "takhvoi_file_save"]),
+        ("kernel", ["blocks in memory,", "notes steps in order"]),
+        ("host", ["performs the steps,", "one after another"]),
+        ("VM file", ["opens as before the", "commit or as after it"]),
+    )
+    for at, (name, lines) in enumerate(boxes):
+        x = 20 + at * 223
+        drawing.box(x, 20, (150, 70), "done" if name == "VM file" else "box", name)
+        for line, words in enumerate(lines):
+            drawing.text(x + 8, 56 + 17 * line, words, "small")
+        if at:
+            drawing.arrow((x - 71, 44), (x - 3, 44), ("save", "steps", "pwrite")[at - 1])
+    drawing.arrow((463, 72), (396, 72))
+    drawing.text(398, 90, "performed", "small")
+    drawing.text(20, 132, "Until all steps are performed, commits, runs and changes return TAKHVOI_PENDING.", "small")
+    drawing.text(20, 150, "It is proved what the kernel notes. The host is trusted: it is a C file of the archive, or your own.", "small")
+    return drawing.svg(164)
+
+
 def main() -> None:
     folder = Path(sys.argv[1]) if len(sys.argv) > 1 else TOP / "docs" / "figures"
     folder.mkdir(parents=True, exist_ok=True)
-    for draw in (layers, pointers, commit, potential, pipeline):
+    for draw in (layers, pointers, commit, potential, pipeline, host):
         (folder / f"{draw.__name__}.svg").write_text(draw())
 
 
