@@ -37,7 +37,9 @@ OWN_LINE = re.compile(rb"(interpreter|checked|races): |run=|rt: ")
 # Names that `rt try` keeps for itself in the folder in which the program runs.
 TAKEN = ("program", "stdin", "stdout", "stderr", "given")
 # The options of `geos` with a word after them.
-WITH_WORD = ("--file", "--grant", "--only", "--region", "--script", "--steps")
+WITH_WORD = ("--file", "--grant", "--html", "--most-steps", "--only", "--region", "--script", "--steps")
+# The options of `call` and `trace` that name a file that is written.
+NEEDS_PROOF = ("--file", "--html")
 # The options that may stand before the command.
 ANYWHERE = ("--diagnostics", "--no-warnings")
 # The ending of the names of sources, by which the program knows them.
@@ -92,10 +94,10 @@ class Request:
         if self.asks_for_help:
             return False
         if self.command in ("call", "trace"):
-            return any(word == "--file" or word.startswith("--file=") for word in self.words)
-        if self.command == "budget" and "--in-place" in self.words:
+            return any(word in NEEDS_PROOF or word.startswith(tuple(f"{name}=" for name in NEEDS_PROOF)) for word in self.words)
+        if self.command in ("budget", "fmt") and "--in-place" in self.words:
             return True
-        if self.command in ("asm", "budget"):
+        if self.command in ("asm", "budget", "fmt"):
             return len(self.plain) > 1 and self.words[self.plain[1]] != "-"
         return self.command in ("new", "run", "put", "get", "dump", "map")
 
@@ -103,7 +105,7 @@ class Request:
         """Where the words stand that name files to read."""
         if self.asks_for_help:
             return []
-        reads = self.command in ("call", "trace", "asm", "budget", "list", "check", "explain")
+        reads = self.command in ("call", "trace", "asm", "budget", "fmt", "list", "check", "explain")
         return [*(self.plain[:1] if reads else []), *self.scripts]
 
     def reads_standard_input(self) -> bool:
