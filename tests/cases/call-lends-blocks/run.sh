@@ -20,7 +20,7 @@ on_file two @1 @2
 on_file two @1 @1 --label
 on_file peek @3
 on_file two @3 @1 --label
-"$program" call "$text" peek @1
+"$program" call "$text" peek @1 --strict 2>/dev/null
 "$program" dump file.vm
 
 echo "traced:"

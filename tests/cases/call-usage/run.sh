@@ -8,6 +8,7 @@ wrong -
 wrong - --file missing.vm
 wrong missing.asm --region 65535
 wrong missing.asm a --region 16777217
+wrong missing.asm a --most-steps 4294967296
 wrong missing.asm a --strict
 "$program" call - </dev/null 2>/dev/null
 echo "status $?"

@@ -37,5 +37,6 @@ printf 'routine f public budget 1\n' >'a
 b.asm'
 said check 'a
 b.asm' --diagnostics
-echo "on a terminal:"
-script -qec "'$program' check stale.asm" /dev/null </dev/null | tr -d '\r'
+echo "on a terminal, and with NO_COLOR:"
+script -qec "'$program' check stale.asm" /dev/null </dev/null | tr -d '\r' | sed 's/\x1b/ESC/g'
+NO_COLOR=1 script -qec "'$program' check stale.asm" /dev/null </dev/null | tr -d '\r'

@@ -70,4 +70,4 @@ said check many.asm --diagnostics | sed -n '2p;21,$p'
 printf 'routine f public budget 1\n LDI w0 1\n RET\n' >refused.asm
 said check refused.asm --diagnostics | cut -d: -f1-4
 echo "on a terminal:"
-script -qec "'$program' call length.asm length" /dev/null </dev/null | tr -d '\r'
+NO_COLOR=1 script -qec "'$program' call length.asm length" /dev/null </dev/null | tr -d '\r'
