@@ -237,7 +237,7 @@ fn write<D: Device + Drop>(
     Ok(())
 }
 
-/// Where bytes from an offset on end; `TooBig` where no chunk is so long.
+/// Where bytes from an offset on end; `TooBig` if no chunk is so long.
 fn end_of(at: u16, n: usize) -> Result<u16, Refusal>
     ensures end { IfOk result (λ end. end ≡ at + n) }
     ensures refused { IfErr result (λ why. IsTooLong why (at + n)) }
@@ -305,10 +305,9 @@ fn put<D: Device + Drop>(
     }
 }
 
-/// Puts bytes in the place of those of a chunk or an item, or, from an offset on, over some of them, behind which it grows; then updates
-/// the VM file. The refusals are those of the kernel's calls: `BadHandle`, `Reserved`, `BadChunk`, `TooBig`, `NoRoom`, `Disk` and those of
-/// a commit. `Locked` comes where a block of the file is locked. Where a step before the update is refused, nothing was written
-/// to the device.
+/// Replaces the bytes of a chunk or an item, or overwrites some of them from an offset on, which may make it longer; then updates the VM
+/// file. The refusals are those of the kernel's calls: `BadHandle`, `Reserved`, `BadChunk`, `TooBig`, `NoRoom`, `Disk` and those of a
+/// commit, and `Locked` if a block of the file is locked. If a step before the update is refused, nothing was written to the device.
 pub fn put_bytes<D: Device + Drop>(
     kernel: &mut Kernel<D>,
     place: Place,

@@ -21,15 +21,15 @@ use std::alloc::Global;
 use std::io::Write;
 use vm_file::Device;
 
-/// Checks an image and runs one routine of it, on at most eight numbers; prints the words that it puts out, or `refused` and a number where a
-/// block that it is lent can't be locked: then the refused call is answered, as line 1. `name` is that of a public routine. Each number is of digits alone, at most 65,535 and within the
-/// bound of its word; behind them stands `@` with the handle of a block for each slot that the routine borrows. The call finds the
-/// kernel's memory as it is, and nothing commits but the routine's own instructions. What was printed before is flushed where the call may
-/// commit; behind it nothing is flushed.
+/// Checks an image and runs the public routine `name` of it. Prints the words that it outputs, or `refused` and a number if a borrowed block
+/// can't be locked, and then returns the refused call, as line 1. `words` has at most eight numbers, each of digits only, at most 65,535 and
+/// within the bound of its word, and then `@` with the handle of a block for each slot that the routine borrows. The call runs on the
+/// kernel's present memory, and only the routine's own instructions commit. Earlier output is flushed before a call that may commit; the
+/// call's own output is not flushed.
 ///
-/// Of the faults, the first that is due is answered: `BadImage`; `Rejected`; `BadWord`; `BadBlocks`. `Memory` may come before the call. Up to then
-/// nothing is asked of the writer, and the kernel is as it was. `Write` comes where the writer failed: it got a beginning of what the
-/// call prints, and the kernel stands where that ended; or the flush failed, and the call was not begun.
+/// Returns the first of these faults: `BadImage`; `Rejected`; `BadWord`; `BadBlocks`. `Memory` is possible before the call. After any of these
+/// the writer was not used, and the kernel is unchanged. `Write` if the writer failed: either it got a prefix of what the call prints, and
+/// the call is done; or the flush failed, and the call did not begin.
 pub fn run_call<W: Write, D: Device + Drop>(
     alloc: Global,
     image: &[u8],
@@ -40,8 +40,8 @@ pub fn run_call<W: Write, D: Device + Drop>(
 ) -> Result<Option<RefusedCommand>, CallFault>
     // No block of the file is locked by others: `Kernel::vm_unlocked` tells it.
     requires unlocked { NoneLocked kernel.old.core.blocks }
-    // What it printed; and stopped at any moment, opening the file finds what the model's run of the
-    // routine has as kept in one of its states. Whatever is granted, if the routine does only that, its run
+    // What it printed. After a stop at any moment, opening the file finds what the model's run of the
+    // routine has committed in one of its states. Whatever is granted, if the routine does only that, its run
     // leaves what is not granted as it was.
     ensures ran { IfOk result (λ refused. RanCall (D.medium.honest kernel.old.device)
         (Throughout D.medium kernel.old.device kernel.new.device) image.now name.now (texts words.now) refused kernel.old.core kernel.new.core
@@ -57,14 +57,13 @@ pub fn run_call<W: Write, D: Device + Drop>(
     ensures honest { D.medium.honest kernel.new.device ↔ D.medium.honest kernel.old.device }
     ensures unlocked { NoneLocked kernel.new.core.blocks }
     ensures sees { SeesDevice D.medium kernel.old × SeesDevice D.medium kernel.new }
-    // Where no call within the device's length fails, and it has room for the file, none failed.
+    // If no call within the device's length fails, and the device has room for the file, none failed.
     ensures steadily { Steadily D.medium (vm_file_of kernel.old) (vm_file_of kernel.new) }
 
     // Nothing runs before a fault other than `Write`.
     ensures kernel_kept { IfErr result (λ fault. fault ≢ Script Write → kernel.new ≡ kernel.old) }
 
-    // The writer: nothing is asked of it before the call, and it failed exactly where `Write` is
-    // answered.
+    // The writer is not used before the call, and it failed exactly if `Write` is returned.
     ensures nothing_written { IfErr result (λ fault. fault ≢ Script Write → Keeps (W.contents out.old.stream) (W.contents out.new.stream)) }
     ensures not_asked { IfErr result (λ fault. fault ≢ Script Write → out.new.asked ≡ out.old.asked) }
     ensures writer_failed { IfErr result (λ fault. fault ≡ Script Write → Rose out.old.failures out.new.failures) }

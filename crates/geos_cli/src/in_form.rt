@@ -65,8 +65,8 @@ fn carry_out_all_in_form<W: Write, D: Device + Drop>(
 
 /// Runs a script as `run_script` does, and prints in a form what each of its commands prints.
 ///
-/// The faults are those of `run_script`, and `Memory` also where it is refused for what a command prints: that command is done, and no
-/// other is begun.
+/// The faults are those of `run_script`, and `Memory` also if there is no memory for what a command prints: that command is done, and no
+/// other begins.
 pub fn run_script_in_form<W: Write, D: Device + Drop>(
     alloc: Global,
     form: Form,
@@ -77,13 +77,13 @@ pub fn run_script_in_form<W: Write, D: Device + Drop>(
     out: &mut Counted<W>,
 ) -> Result<Option<RefusedCommand>, ScriptFault>
     requires unlocked { NoneLocked kernel.old.core.blocks }
-    // Each command did what it does plainly, and the writer got what they printed, in the form. Stopped at any moment,
-    // opening the file finds what the model's run of the script has as kept in one of its states.
+    // Each command did what it does in the plain form, and the writer got what they printed, in this form. After a stop at any moment,
+    // opening the file finds what the model's run of the script has committed in one of its states.
     ensures ran { IfOk result (λ refused. RanScriptInForm D.medium form mode image.now script.now refused kernel.old kernel.new
         (W.contents out.old.stream) (W.contents out.new.stream)) }
     ensures due { IfErr result (ScriptEndsBy image.now script.now) }
-    // Nothing ran and nothing was written, or some commands did, and the writer got a beginning of their text. A stop then
-    // leaves what the model's run of these has as kept.
+    // Nothing ran and nothing was written, or some commands ran, and the writer got a prefix of their text. A stop then
+    // leaves what the model's run of these has committed.
     ensures left { IfErr result (λ fault. Leaves fault
         ((kernel.new ≡ kernel.old) × Keeps (W.contents out.old.stream) (W.contents out.new.stream))
         (StoppedScriptInForm D.medium form mode image.now script.now kernel.old kernel.new (W.contents out.old.stream) (W.contents out.new.stream))) }
@@ -103,8 +103,8 @@ pub fn run_script_in_form<W: Write, D: Device + Drop>(
     carry_out_all_in_form(alloc, form, mode, &checked, &commands, kernel, out)
 }
 
-/// Runs one call as `run_call` does, and prints in a form what it puts out. The faults are those of `run_call`, and `Memory` also where
-/// it is refused for what the call prints: it is done then.
+/// Runs one call as `run_call` does, and prints its output in a form. The faults are those of `run_call`, and `Memory` also if there is no
+/// memory for what the call prints: the call is done then.
 pub fn run_call_in_form<W: Write, D: Device + Drop>(
     alloc: Global,
     form: Form,
@@ -115,13 +115,13 @@ pub fn run_call_in_form<W: Write, D: Device + Drop>(
     out: &mut Counted<W>,
 ) -> Result<Option<RefusedCommand>, CallFault>
     requires unlocked { NoneLocked kernel.old.core.blocks }
-    // The call did what it does plainly, and the writer got what it printed, in the form. Stopped at any moment, opening
-    // the file finds what the model's run of the call has as kept in one of its states.
+    // The call did what it does in the plain form, and the writer got what it printed, in this form. After a stop at any moment, opening
+    // the file finds what the model's run of the call has committed in one of its states.
     ensures ran { IfOk result (λ refused. RanCallInForm D.medium form image.now name.now (texts words.now) refused kernel.old kernel.new
         (W.contents out.old.stream) (W.contents out.new.stream)) }
     ensures due { IfErr result (CallEndsBy image.now name.now (texts words.now)) }
-    // Nothing ran and nothing was written, or the call did, and the writer got a beginning of its text. A stop then leaves
-    // what the model's run of it has as kept.
+    // Nothing ran and nothing was written, or the call ran, and the writer got a prefix of its text. A stop then leaves
+    // what the model's run of it has committed.
     ensures left { IfErr result (λ fault. LeavesCall fault
         ((kernel.new ≡ kernel.old) × Keeps (W.contents out.old.stream) (W.contents out.new.stream))
         (StoppedCallInForm D.medium form image.now name.now (texts words.now) kernel.old kernel.new (W.contents out.old.stream) (W.contents out.new.stream))) }

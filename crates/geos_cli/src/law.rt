@@ -6,9 +6,9 @@ ghost use Rattle.geos_cli.specs.Plain.{PlainScriptsRun};
 
 use vm_file::Device;
 
-/// A call of an accepted image that may not commit, by the place of the first instruction that does,
-/// leaves what the device holds as it was, whatever is refused from outside: in each state of its run and
-/// behind it. So only commands before which the output is flushed change what a stop leaves.
+/// A call of an accepted image that may not commit, according to its first instruction that commits, leaves the contents of the device
+/// unchanged, in each state of its run and after it, whatever is refused from outside. So only commands before which the output is
+/// flushed change what a stop leaves.
 pub fn other_calls_keep()
     ensures { OtherCallsKeep }
 {}

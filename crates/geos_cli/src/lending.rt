@@ -1,4 +1,4 @@
-//! Calls of routines on blocks of the VM file, which are locked for them and unlocked behind.
+//! Calls of routines on blocks of the VM file, which are locked before the call and unlocked after it.
 
 ghost use Rattle.std.specs.Prelude.{◌≡◌, ◌↔◌, ◌+◌, ◌≤◌, ◌<◌, ℕ, length, take, get_or, true, All};
 ghost use Rattle.std.specs.Prelude.{Ok, Err, OnOk, OnErr, IfOk, IfErr};

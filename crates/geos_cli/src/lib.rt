@@ -4,9 +4,9 @@
 //! | Module | Has |
 //! |---|---|
 //! | session | `run_session`: reads a session to its end, and runs it |
-//! | law | `other_calls_keep`: calls that may not commit leave what the device holds as it was; `plain_scripts_do_the_same` |
+//! | law | `other_calls_keep`: calls that may not commit leave the contents of the device unchanged; `plain_scripts_do_the_same` |
 //! | lending | runs a routine on blocks that it borrows, which are locked for it |
-//! | script | `run_script`, `run_script_in_mode`: carry out the commands of a script, and print what calls put out |
+//! | script | `run_script`, `run_script_in_mode`: carry out the commands of a script, and print what calls output |
 //! | call | `run_call`: carries out one call, which words name |
 //! | bytes | `put_bytes`, `get_bytes`: write and read a chunk or an item |
 //! | progress | the commands of a script, one after another, printed in a form |
@@ -32,7 +32,7 @@ pub use crate::in_form::{run_call_in_form, run_script_in_form};
 pub use crate::law::{other_calls_keep, plain_scripts_do_the_same};
 pub use crate::script::{Mode, RefusedCommand, run_script, run_script_in_mode};
 pub use crate::session::run_session;
-pub use crate::traced::{TraceFault, TracedCall, trace_call, trace_call_watched};
+pub use crate::traced::{NotedCall, TraceFault, TracedCall, trace_call, trace_call_watched};
 pub use crate::with_names::{EarlyEnd, run_script_with_names};
 pub use geos_input::{Counted, MOST_BYTES, ScriptFault};
 pub use geos_machine::Watch;

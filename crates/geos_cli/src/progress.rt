@@ -27,9 +27,9 @@ use std::alloc::Global;
 use std::io::Write;
 use vm_file::Device;
 
-/// Carries out a command, and prints in a form what it prints; gives what it came to, and the word that it put out first. Its plain text is
-/// at most 1,024 lines of six bytes. `Memory` where that or the text in the form has none, `Write` where the writer fails: the command is
-/// done all the same.
+/// Carries out a command, and prints its output in a form. Returns the command's result, and the first word of its output. Its plain text
+/// has at most 1,024 lines of six bytes. `Memory` if there is no memory for that or for the text in the form, `Write` if the writer fails;
+/// the command is done in both cases.
 fn carry_out_noting<W: Write, D: Device + Drop>(
     alloc: Global,
     form: Form,

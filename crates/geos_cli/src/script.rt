@@ -37,10 +37,10 @@ use std::alloc::Global;
 use std::io::Write;
 use vm_file::{Device, How};
 
-/// What a script does behind a command that was refused.
+/// What a script does after a refused command.
 #[derive(Clone, Copy)]
 pub enum Mode {
-    /// It goes on.
+    /// It continues.
     Lenient,
     /// It ends.
     Strict,
@@ -73,8 +73,8 @@ fn commit_kernel<D: Device + Drop>(kernel: &mut Kernel<D>, how: How) -> Result<(
     done
 }
 
-/// Carries out a command, prints what a call puts out, or the number of a refusal, and gives what the
-/// command came to. Where the command may commit, what was printed before has been given out.
+/// Carries out a command, prints the output of a call or the number of a refusal, and returns the command's result. Output before a
+/// command that may commit has been flushed.
 pub(crate) fn carry_out<W: Write, D: Device + Drop>(
     machine: &mut Machine,
     checked: &Checked,
@@ -119,7 +119,7 @@ pub(crate) fn carry_out<W: Write, D: Device + Drop>(
     }
 }
 
-/// The refused command behind which the script does not go on, if the command of the line is one.
+/// The refused command after which the script ends, if the command of the line is one.
 pub(crate) fn ended_by(mode: Mode, line: usize, done: Result<(), Refusal>) -> Option<RefusedCommand>
     ensures { MatchOption result (GoesOn mode done) (λ refused. (mode ≡ Strict) × (refused.line ≡ line) × (done ≡ Err refused.refusal)) }
 {
@@ -129,9 +129,8 @@ pub(crate) fn ended_by(mode: Mode, line: usize, done: Result<(), Refusal>) -> Op
     }
 }
 
-/// Carries out the commands one after another, all of them or up to the refused command behind which
-/// the script does not go on. Each finds the kernel as the one before left it, and what those before
-/// printed is flushed where it may commit, or the last one may have.
+/// Carries out the commands one after another, all of them or up to the refused command at which the script ends. Each runs on the kernel
+/// that the previous one left. The output is flushed before a command that may commit, and after it before the next one.
 pub(crate) fn carry_out_all<W: Write, D: Device + Drop>(
     mode: Mode,
     checked: &Checked,
@@ -172,7 +171,7 @@ pub(crate) fn carry_out_all<W: Write, D: Device + Drop>(
     Ok(None)
 }
 
-/// The image that the bytes spell, checked.
+/// The image that the bytes encode, checked.
 pub(crate) fn load(alloc: Global, image: &[u8]) -> Result<Checked, ScriptFault>
     ensures image { IfOk result (λ checked. (image_at image.now ≡ Ok checked) × Accepted checked) }
     ensures bad { IfErr result (IsBadImage image.now) }
@@ -184,10 +183,9 @@ pub(crate) fn load(alloc: Global, image: &[u8]) -> Result<Checked, ScriptFault>
     }
 }
 
-/// Runs a script as `run_script` does, in a mode. A lenient script goes on behind a refused command, and `None` is answered. A strict one
-/// ends there: the command is answered, once its `refused` and number are printed, and no command behind it is begun. Where none is
-/// refused, `None` is answered, and all is as of `run_script`. What a routine's own commits come to is the routine's to handle, and
-/// refuses no call. The faults are those of `run_script`.
+/// Runs a script as `run_script` does, in a mode. A lenient script continues after a refused command, and returns `None`. A strict script
+/// prints `refused` and the number, returns the command, and begins no later one; it returns `None` if no command is refused. The results
+/// of a routine's own commits are the routine's to handle: they refuse no call. The faults are those of `run_script`.
 pub fn run_script_in_mode<W: Write, D: Device + Drop>(
     alloc: Global,
     mode: Mode,
@@ -198,9 +196,9 @@ pub fn run_script_in_mode<W: Write, D: Device + Drop>(
 ) -> Result<Option<RefusedCommand>, ScriptFault>
     // No block of the file is locked by others: `Kernel::vm_unlocked` tells it.
     requires unlocked { NoneLocked kernel.old.core.blocks }
-    // The commands are done, all or up to the one that is answered, and nothing behind that was begun.
-    // What it printed; and stopped at any moment, opening the file finds what the model's run of the
-    // script has as kept in one of its states.
+    // All commands are done, or those up to the returned one, and no later one began.
+    // What it printed. After a stop at any moment, opening the file finds what the model's run of the
+    // script has committed in one of its states.
     ensures ran { IfOk result (λ refused. RanScript mode (D.medium.honest kernel.old.device)
         (Throughout D.medium kernel.old.device kernel.new.device) image.now script.now refused kernel.old.core kernel.new.core
         (W.contents out.old.stream) (W.contents out.new.stream)) }
@@ -216,14 +214,13 @@ pub fn run_script_in_mode<W: Write, D: Device + Drop>(
     ensures honest { D.medium.honest kernel.new.device ↔ D.medium.honest kernel.old.device }
     ensures unlocked { NoneLocked kernel.new.core.blocks }
     ensures sees { SeesDevice D.medium kernel.old × SeesDevice D.medium kernel.new }
-    // Where no call within the device's length fails, and it has room for the file, none failed.
+    // If no call within the device's length fails, and the device has room for the file, none failed.
     ensures steadily { Steadily D.medium (vm_file_of kernel.old) (vm_file_of kernel.new) }
 
     // Nothing runs before a fault other than `Write`.
     ensures kernel_kept { IfErr result (λ fault. fault ≢ Write → kernel.new ≡ kernel.old) }
 
-    // The writer: nothing is asked of it before the first command, and it failed exactly where
-    // `Write` is answered.
+    // The writer is not used before the first command, and it failed exactly if `Write` is returned.
     ensures nothing_written { IfErr result (λ fault. fault ≢ Write → Keeps (W.contents out.old.stream) (W.contents out.new.stream)) }
     ensures not_asked { IfErr result (λ fault. fault ≢ Write → out.new.asked ≡ out.old.asked) }
     ensures writer_failed { IfErr result (λ fault. fault ≡ Write → Rose out.old.failures out.new.failures) }
@@ -238,20 +235,17 @@ pub fn run_script_in_mode<W: Write, D: Device + Drop>(
     carry_out_all(mode, &checked, &commands, kernel, out)
 }
 
-/// Checks an image and runs a script: calls, which print the words that they put out, or `refused` and a number where a block
-/// that they lend can't be locked, and commits (`update`, `save`, `revert`), which print nothing, or `refused` and a number. Each command finds
-/// the kernel's memory as the one before left it, and the kernel keeps what the last one left. The
-/// script is read whole first, and a bad one runs nothing. What commands have printed is flushed
-/// before each that may commit, also a call, and behind it before the next one; behind the last one
-/// it is not flushed.
+/// Checks an image and runs a script. Its commands are calls, which print their output, or `refused` and a number if a block that they lend
+/// can't be locked, and commits (`update`, `save`, `revert`), which print nothing, or `refused` and a number. Each command runs on the
+/// kernel that the previous one left, and the kernel is left as the last command left it. The whole script is read first, and a bad script
+/// runs nothing. Output is flushed before each command that may commit, also a call, and after it before the next command; the output of
+/// the last command is not flushed.
 ///
-/// Of the faults, the first that is due is answered: `TooLong` where the script has more than
-/// 1,048,576 bytes; `BadImage`; `Rejected`; `BadScript`. `Memory` may come before the first
-/// command. Up to then nothing is asked of the writer, and the kernel is as it was. `Write`
-/// comes where the writer failed. Either it got all that the commands before print and a beginning
-/// of what the last one prints; the kernel stands where that one ended. Or a flush before a command
-/// failed: it got all that those before print, and the kernel stands where they ended. No
-/// other was begun. Where `Write` is not answered, no call of the writer failed.
+/// Returns the first of these faults: `TooLong` if the script has more than 1,048,576 bytes; `BadImage`; `Rejected`; `BadScript`. `Memory` is
+/// possible before the first command. After any of these the writer was not used, and the kernel is unchanged. `Write` if the writer failed:
+/// either it got all that the commands before the last one print and a prefix of what the last one prints, and the last one is done; or a
+/// flush before a command failed, the writer got all that the earlier commands print, and that command did not begin. No later command
+/// began. If `Write` is not returned, no call of the writer failed.
 pub fn run_script<W: Write, D: Device + Drop>(
     alloc: Global,
     image: &[u8],
@@ -261,8 +255,8 @@ pub fn run_script<W: Write, D: Device + Drop>(
 ) -> Result<(), ScriptFault>
     // No block of the file is locked by others: `Kernel::vm_unlocked` tells it.
     requires unlocked { NoneLocked kernel.old.core.blocks }
-    // What it printed; and stopped at any moment, opening the file finds what the model's run of the
-    // script has as kept in one of its states.
+    // What it printed. After a stop at any moment, opening the file finds what the model's run of the
+    // script has committed in one of its states.
     ensures ran { IfOk result (λ _. RanScript Lenient (D.medium.honest kernel.old.device)
         (Throughout D.medium kernel.old.device kernel.new.device) image.now script.now None kernel.old.core kernel.new.core
         (W.contents out.old.stream) (W.contents out.new.stream)) }
@@ -277,14 +271,13 @@ pub fn run_script<W: Write, D: Device + Drop>(
     ensures honest { D.medium.honest kernel.new.device ↔ D.medium.honest kernel.old.device }
     ensures unlocked { NoneLocked kernel.new.core.blocks }
     ensures sees { SeesDevice D.medium kernel.old × SeesDevice D.medium kernel.new }
-    // Where no call within the device's length fails, and it has room for the file, none failed.
+    // If no call within the device's length fails, and the device has room for the file, none failed.
     ensures steadily { Steadily D.medium (vm_file_of kernel.old) (vm_file_of kernel.new) }
 
     // Nothing runs before a fault other than `Write`.
     ensures kernel_kept { IfErr result (λ fault. fault ≢ Write → kernel.new ≡ kernel.old) }
 
-    // The writer: nothing is asked of it before the first command, and it failed exactly where
-    // `Write` is answered.
+    // The writer is not used before the first command, and it failed exactly if `Write` is returned.
     ensures nothing_written { IfErr result (λ fault. fault ≢ Write → Keeps (W.contents out.old.stream) (W.contents out.new.stream)) }
     ensures not_asked { IfErr result (λ fault. fault ≢ Write → out.new.asked ≡ out.old.asked) }
     ensures writer_failed { IfErr result (λ fault. fault ≡ Write → Rose out.old.failures out.new.failures) }

@@ -43,11 +43,9 @@ fn run_bytes<W: Write>(alloc: Global, bytes: &[u8], out: &mut Counted<W>) -> Res
 /// digits, a line `end`, and a script as of `run_script`. It begins with no memory block, in a
 /// region of 65,536 bytes, and on a new VM file in memory: so no command is refused 11.
 ///
-/// Of the faults, the first that is due is answered: `TooLong` where there are more than
-/// 1,048,576 bytes; `BadHex`; then those of `run_script`. `Read` comes where the reader
-/// failed, which is asked at most 1,048,577 times. `Write` comes where the writer failed, as of
-/// `run_script`, or behind the last command, where the flush failed: then the writer got all that
-/// the commands print. Where neither is answered, no call of the reader or the writer failed.
+/// Returns the first of these faults: `TooLong` if there are more than 1,048,576 bytes; `BadHex`; then those of `run_script`. `Read` if the
+/// reader failed, which is called at most 1,048,577 times. `Write` if the writer failed, as in `run_script`, or if the flush after the last
+/// command failed: then the writer got all that the commands print. If neither is returned, no call of the reader or the writer failed.
 pub fn run_session<R: Read, W: Write>(
     alloc: Global,
     input: &mut Counted<R>,
@@ -60,14 +58,13 @@ pub fn run_session<R: Read, W: Write>(
     ensures stopped { IfErr result (λ fault. fault ≡ Write →
         StoppedSession (R.remaining input.old.stream) (R.remaining input.new.stream) (W.contents out.old.stream) (W.contents out.new.stream)) }
 
-    // The writer: nothing is asked of it before the first call, and it failed exactly where
-    // `Write` is answered.
+    // The writer is not used before the first call, and it failed exactly if `Write` is returned.
     ensures nothing_written { IfErr result (λ fault. fault ≢ Write → Keeps (W.contents out.old.stream) (W.contents out.new.stream)) }
     ensures not_asked { IfErr result (λ fault. fault ≢ Write → out.new.asked ≡ out.old.asked) }
     ensures writer_failed { IfErr result (λ fault. fault ≡ Write → Rose out.old.failures out.new.failures) }
     ensures writer_kept { KeptUnless Write result out.old.failures out.new.failures }
 
-    // The reader: it failed exactly where `Read` is answered.
+    // The reader: it failed exactly if `Read` is answered.
     ensures reader_failed { IfErr result (λ fault. fault ≡ Read → Rose input.old.failures input.new.failures) }
     ensures reader_kept { KeptUnless Read result input.old.failures input.new.failures }
     ensures asked { input.new.asked ≤ input.old.asked + most_bytes + 1 }

@@ -21,12 +21,27 @@ use crate::lending::{lock_lent, unlock_all};
 use crate::script::load;
 use geos_input::ScriptFault;
 use geos_kernel::Kernel;
-use geos_machine::{Machine, Outcome, Trace, Unwatched, Watch};
+use geos_machine::{Machine, Outcome, RoutineCall, Trace, Unwatched, Watch};
 use geos_terms::Refusal;
 use geos_verify::Checked;
 use script_commands::{Call, CallFault, call_on, routine_named, why_no_call};
 use std::alloc::Global;
 use vm_file::Device;
+
+/// A call by its words, and which of its steps are noted.
+#[derive(Clone, Copy)]
+pub struct NotedCall<'c, 'w> {
+    /// The bytes of the image.
+    pub image: &'c [u8],
+    /// The name of the routine.
+    pub name: &'c str,
+    /// The numbers and blocks after the name.
+    pub words: &'c [&'w str],
+    /// The routine whose steps are noted; with none, those of all routines are.
+    pub only: Option<&'c str>,
+    /// How many steps are noted at most.
+    pub most: usize,
+}
 
 /// A call that was carried out, and what was noted of it.
 #[derive(Drop)]
@@ -50,7 +65,7 @@ pub enum TraceFault {
     NoRoutine,
 }
 
-/// The pcs of the routine of that name, or of all: the first one, and the end behind the last.
+/// The pcs of the routine of that name, or of all routines: the first one, and the one after the last.
 fn stretch_of(checked: &Checked, only: Option<&str>) -> Option<(u16, u16)>
     ensures { result ≡ stretch_of checked.now (option_map (λ word. word.now) only.entry) }
 {
@@ -88,15 +103,13 @@ fn trace<D: Device + Drop, W: Watch>(
 {
     // for a file that the model may know
     kernel.memory_is_legal();
-    Machine::new().trace_watched(
+    let call = RoutineCall {
         checked,
-        call.routine,
-        &call.words,
-        &call.handles,
-        kernel,
-        notes,
-        watcher,
-    )
+        routine: call.routine,
+        words: &call.words,
+        handles: &call.handles,
+    };
+    Machine::new().trace_watched(&call, kernel, notes, watcher)
 }
 
 /// Does as `run_lent`, and notes the steps of the routine.
@@ -126,27 +139,24 @@ fn trace_lent<D: Device + Drop, W: Watch>(
     Ok(outcome)
 }
 
-/// Checks an image and runs one routine of it, as `run_call` does, but prints nothing: it gives what the run put out, and notes of its steps, at
-/// most so many, of all routines or of the one that is named `only`; or the refusal of a block that it is lent and that can't be locked. All
+/// Checks an image and runs one routine of it, as `run_call` does, but prints nothing: it gives what the run output, and notes of its steps, as
+/// many and of the routines that the call names; or the refusal of a block that it is lent and that can't be locked. All
 /// memory is taken before.
 ///
-/// Of the faults, the first that is due is answered, and nothing has run then: those of `run_call`, but for `Write`; `NoRoutine` where no
+/// Of the faults, the first that is due is answered, and nothing has run then: those of `run_call`, except for `Write`; `NoRoutine` if no
 /// routine has the name `only`.
 pub fn trace_call<D: Device + Drop>(
     alloc: Global,
-    image: &[u8],
-    name: &str,
-    words: &[&str],
-    only: Option<&str>,
-    most: usize,
+    call: &NotedCall<'_, '_>,
     kernel: &mut Kernel<D>,
 ) -> Result<Result<TracedCall, Refusal>, TraceFault>
     // No block of the file is locked by others: `Kernel::vm_unlocked` tells it.
     requires unlocked { NoneLocked kernel.old.core.blocks }
     // The model's locks, its run of the routine, what was noted of its steps, and the unlocks; or a lock that was refused.
-    ensures ran { IfOk result (IsTraced D.medium kernel.old kernel.new image.now name.now (texts words.now)
-        (option_map (λ word. word.now) only.entry) most) }
-    ensures due { IfErr result (WhyNotTraced image.now name.now (texts words.now) (option_map (λ word. word.now) only.entry)) }
+    ensures ran { IfOk result (IsTraced D.medium kernel.old kernel.new call.now.image.now call.now.name.now (texts call.now.words.now)
+        (option_map (λ word. word.now) call.now.only) call.now.most) }
+    ensures due { IfErr result (WhyNotTraced call.now.image.now call.now.name.now (texts call.now.words.now)
+        (option_map (λ word. word.now) call.now.only)) }
     // Nothing runs before a fault.
     ensures kept { IfErr result (λ _. kernel.new ≡ kernel.old) }
     ensures honest { D.medium.honest kernel.new.device ↔ D.medium.honest kernel.old.device }
@@ -155,26 +165,23 @@ pub fn trace_call<D: Device + Drop>(
     ensures steadily { Steadily D.medium (vm_file_of kernel.old) (vm_file_of kernel.new) }
 {
     let mut nobody = Unwatched;
-    trace_call_watched(alloc, image, name, words, only, most, kernel, &mut nobody)
+    trace_call_watched(alloc, call, kernel, &mut nobody)
 }
 
 /// Does as `trace_call`. A watcher sees the machine and the kernel before each step.
 pub fn trace_call_watched<D: Device + Drop, W: Watch>(
     alloc: Global,
-    image: &[u8],
-    name: &str,
-    words: &[&str],
-    only: Option<&str>,
-    most: usize,
+    call: &NotedCall<'_, '_>,
     kernel: &mut Kernel<D>,
     watcher: &mut W,
 ) -> Result<Result<TracedCall, Refusal>, TraceFault>
     // No block of the file is locked by others: `Kernel::vm_unlocked` tells it.
     requires unlocked { NoneLocked kernel.old.core.blocks }
     // The model's locks, its run of the routine, what was noted of its steps, and the unlocks; or a lock that was refused.
-    ensures ran { IfOk result (IsTraced D.medium kernel.old kernel.new image.now name.now (texts words.now)
-        (option_map (λ word. word.now) only.entry) most) }
-    ensures due { IfErr result (WhyNotTraced image.now name.now (texts words.now) (option_map (λ word. word.now) only.entry)) }
+    ensures ran { IfOk result (IsTraced D.medium kernel.old kernel.new call.now.image.now call.now.name.now (texts call.now.words.now)
+        (option_map (λ word. word.now) call.now.only) call.now.most) }
+    ensures due { IfErr result (WhyNotTraced call.now.image.now call.now.name.now (texts call.now.words.now)
+        (option_map (λ word. word.now) call.now.only)) }
     // Nothing runs before a fault.
     ensures kept { IfErr result (λ _. kernel.new ≡ kernel.old) }
     ensures honest { D.medium.honest kernel.new.device ↔ D.medium.honest kernel.old.device }
@@ -183,23 +190,23 @@ pub fn trace_call_watched<D: Device + Drop, W: Watch>(
     ensures steadily { Steadily D.medium (vm_file_of kernel.old) (vm_file_of kernel.new) }
 {
     kernel.memory_is_legal();
-    let checked = match load(alloc, image) {
+    let checked = match load(alloc, call.image) {
         Ok(checked) => checked,
         Err(fault) => return Err(TraceFault::Call(CallFault::Script(fault))),
     };
-    let Some(call) = call_on(&checked, name, words) else {
-        return Err(TraceFault::Call(why_no_call(&checked, name, words)));
+    let Some(asked) = call_on(&checked, call.name, call.words) else {
+        return Err(TraceFault::Call(why_no_call(&checked, call.name, call.words)));
     };
-    let Some((first, end)) = stretch_of(&checked, only) else {
+    let Some((first, end)) = stretch_of(&checked, call.only) else {
         return Err(TraceFault::NoRoutine);
     };
-    let Ok(mut notes) = Trace::new(alloc, first, end, most) else {
+    let Ok(mut notes) = Trace::new(alloc, first, end, call.most) else {
         return Err(TraceFault::Call(CallFault::Script(ScriptFault::Memory)));
     };
-    match trace_lent(&checked, &call, kernel, &mut notes, watcher) {
+    match trace_lent(&checked, &asked, kernel, &mut notes, watcher) {
         Ok(outcome) => Ok(Ok(TracedCall {
             checked,
-            routine: call.routine,
+            routine: asked.routine,
             outcome,
             trace: notes,
         })),

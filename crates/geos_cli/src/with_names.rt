@@ -1,4 +1,4 @@
-//! Scripts whose lines write names for words that calls before them put out.
+//! Scripts whose lines write names for words that earlier calls output.
 
 ghost use Rattle.std.specs.Prelude.{◌≡◌, ◌↔◌, ◌⊎◌, None, map, IfOk, IfErr};
 ghost use Rattle.std.specs.Io.KnownBytes.{Keeps};
@@ -24,7 +24,7 @@ use std::alloc::Global;
 use std::io::Write;
 use vm_file::Device;
 
-/// Why a script ended before its last command, behind commands that are done.
+/// Why a script ended before its last command, after commands that are done.
 #[derive(Clone, Copy)]
 pub enum EarlyEnd {
     /// This command was refused, and the script is strict.
@@ -89,15 +89,15 @@ fn good_lines<'a>(
     }
 }
 
-/// Runs a script as `run_script_in_form` does, whose lines may write names. A call with `-> NAME` behind it keeps the word that it puts out
-/// first, or none, under the name, in place of the one before; `$NAME` stands for that number wherever a number of a later call stands, also
-/// behind `@`. A line does what the same line with the numbers does.
+/// Runs a script as `run_script_in_form` does, whose lines may write names. A call with `-> NAME` after it stores the first word of its output
+/// under the name, or nothing if there is no output, in place of the previous value. `$NAME` is that number in a later call, also after `@`.
+/// A line does what the same line with the numbers does.
 ///
-/// Before the first command a line is bad where it would be with 0 in the place of its names, where no line before keeps one of them, and
-/// where it is the 1,025th that keeps a word. Behind commands the script ends at a line that is bad with the words that its names then
-/// stand for: `EarlyEnd::BadLine` is answered, and all before is done.
+/// Before the first command, a line is bad if it is bad with 0 in the place of its names, if no earlier line stores one of them, or if it is
+/// the 1,025th that stores a word. During the run, the script ends at a line that is bad with the numbers that its names have: it returns
+/// `EarlyEnd::BadLine`, and all earlier lines are done.
 ///
-/// The faults are those of `run_script_in_form`, and `Memory` also where it is refused for a line or a name.
+/// The faults are those of `run_script_in_form`, and `Memory` also if there is no memory for a line or a name.
 pub fn run_script_with_names<W: Write, D: Device + Drop>(
     alloc: Global,
     form: Form,
@@ -108,13 +108,13 @@ pub fn run_script_with_names<W: Write, D: Device + Drop>(
     out: &mut Counted<W>,
 ) -> Result<Option<EarlyEnd>, ScriptFault>
     requires unlocked { NoneLocked kernel.old.core.blocks }
-    // Each line did what the same line with numbers does plainly, and the writer got what they printed, in the form. Stopped
-    // at any moment, opening the file finds what the model's run of the lines has as kept in one of its states.
+    // Each line did what the same line with numbers does in the plain form, and the writer got what they printed, in this form. After a stop
+    // at any moment, opening the file finds what the model's run of the lines has committed in one of its states.
     ensures ran { IfOk result (λ end. RanNamedScript D.medium form mode image.now script.now end kernel.old kernel.new
         (W.contents out.old.stream) (W.contents out.new.stream)) }
     ensures due { IfErr result (NamedScriptEndsBy image.now script.now) }
-    // Nothing ran and nothing was written, or some lines did, and the writer got a beginning of their text. A stop then leaves
-    // what the model's run of these has as kept.
+    // Nothing ran and nothing was written, or some lines ran, and the writer got a prefix of their text. A stop then leaves
+    // what the model's run of these has committed.
     ensures left { IfErr result (λ fault. Leaves fault
         ((kernel.new ≡ kernel.old) × Keeps (W.contents out.old.stream) (W.contents out.new.stream))
         (StoppedNamedScript D.medium form mode image.now script.now kernel.old kernel.new (W.contents out.old.stream) (W.contents out.new.stream))) }

@@ -176,7 +176,7 @@ pub(crate) fn stxw<D: Device + Drop>(
 }
 
 /// Whether a span of this length has so many bytes at an offset.
-// The length alone is passed: of a whole span the compiler makes one number, and takes it apart again.
+// Only the length is passed: of a whole span the compiler makes one number, and takes it apart again.
 fn reaches(len: u16, at: u16, n: u32) -> bool
     requires { n ≤ 2 }
     ensures { result ≡ not (nat_lt len (at + n)) }

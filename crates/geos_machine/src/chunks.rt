@@ -67,7 +67,7 @@ pub(crate) fn change_at(m: &Machine, i: &Instr) -> Change
     }
 }
 
-/// The number that an instruction asks for.
+/// The number that an instruction requests.
 fn ask_at(m: &Machine, i: &Instr) -> Ask
     requires fields { FieldsFit i.now.opcode i.now }
     requires asks { asks_of_chunks i.now.opcode ≡ true }

@@ -25,7 +25,7 @@ fn has_block<D: Device + Drop>(h: u16, kernel: &Kernel<D>) -> bool
     }
 }
 
-/// Whether the handle is that of such a block, where the slot is borrowed, and else 0.
+/// Whether the handle is that of such a block, where the slot is borrowed, and otherwise 0.
 fn is_handed<D: Device + Drop>(state: SlotState, h: u16, kernel: &Kernel<D>) -> bool
     ensures { result ≡ is_handed kernel.now.core state h }
 {
@@ -103,7 +103,7 @@ fn are_each_counted<D: Device + Drop>(
         & is_counted(states, handles, h3, kernel)
 }
 
-/// 1 for a slot that is borrowed, else 0.
+/// 1 for a slot that is borrowed, otherwise 0.
 fn borrowed_once(state: SlotState) -> u32
     ensures value { result ≡ borrowed_once state }
     ensures small { result ≤ 1 }

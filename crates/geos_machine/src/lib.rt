@@ -5,6 +5,7 @@
 
 mod access;
 mod blocks;
+mod call;
 mod chunks;
 mod files;
 mod head;
@@ -16,6 +17,7 @@ mod trace;
 mod traced;
 mod watch;
 
+pub use call::RoutineCall;
 pub use machine::{Machine, admits};
 pub use outcome::Outcome;
 pub use trace::{Left, Noted, Trace};

@@ -9,7 +9,7 @@ use arrayvec::ArrayVec;
 pub struct Outcome {
     /// The words w0 to w7 at the return.
     pub words: [u16; 8],
-    /// The words that were put out, at most 1,024.
+    /// The words that were output, at most 1,024.
     pub output: ArrayVec<u16, 1024>,
     /// How many instructions were executed, the last return too.
     pub steps: u32,

@@ -27,15 +27,15 @@ pub enum Left {
 /// What is noted of a step of a run.
 #[derive(Clone, Copy)]
 pub struct Noted {
-    /// Where the instruction stands.
+    /// The pc of the instruction.
     pub pc: u16,
     /// How control left it.
     pub left: Left,
-    /// The words w0 to w7 behind it.
+    /// The words w0 to w7 after the step.
     pub words: [u16; 8],
-    /// The counters k0 to k3 behind it.
+    /// The counters k0 to k3 after the step.
     pub counters: [u16; 4],
-    /// The names of the blocks that slots hold behind it. What an empty one has means nothing.
+    /// The names of the blocks in the slots after the step. The name in an empty slot means nothing.
     pub slots: [Name; 4],
 }
 
@@ -74,8 +74,8 @@ pub(crate) fn left_by(goes: &Goes) -> Left
 }
 
 impl Trace {
-    /// Empty notes. They are to have at most so many steps, at pcs from `first` up to one before `end`. All memory that they want
-    /// is taken here.
+    /// Empty notes, for at most `most` steps, at pcs from `first` up to the one before `end`. All memory that they need is
+    /// allocated here.
     pub fn new(alloc: Global, first: u16, end: u16, most: usize) -> Result<Trace, AllocError>
         ensures { IfOk result (λ trace. trace ≡ record { first = first; end = end; most = most; noted = []; counts = replicate 4096 0 }) }
     {

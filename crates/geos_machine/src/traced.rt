@@ -13,6 +13,7 @@ ghost use Rattle.geos_entry.specs.Entry.{admits, entry_slots};
 ghost use Rattle.geos_machine.specs.Runs.{Throughout};
 ghost use Rattle.geos_machine.specs.Traces.{IsEmpty, Traced};
 
+use crate::call::RoutineCall;
 use crate::head::head_of;
 use crate::machine::Machine;
 use crate::outcome::Outcome;
@@ -21,11 +22,10 @@ use crate::trace::{Left, Noted, Trace, left_by};
 use crate::watch::{Unwatched, Watch};
 use arrayvec::ArrayVec;
 use geos_kernel::Kernel;
-use geos_verify::Checked;
 use vm_file::Device;
 
 impl Machine {
-    /// What is noted of a step behind it.
+    /// What is noted of a step after it.
     fn noted(&self, pc: u16, left: Left) -> Noted
         ensures { result ≡ record { pc = pc; left = left; words = self.now.words; counters = self.now.counters; slots = self.now.slots } }
     {
@@ -41,36 +41,25 @@ impl Machine {
     /// Runs a routine as `run` does, and notes its steps.
     pub fn trace<D: Device + Drop>(
         &mut self,
-        checked: &Checked,
-        routine: u16,
-        words: &[u16; 8],
-        handles: &[u16; 4],
+        call: &RoutineCall<'_>,
         kernel: &mut Kernel<D>,
         trace: &mut Trace,
     ) -> Outcome
-        requires admitted { admits checked.now routine words.now ≡ true }
-        requires lent { Lends kernel.old.core (entry_slots checked.now routine) handles.now }
+        requires admitted { admits call.now.checked.now call.now.routine call.now.words.now ≡ true }
+        requires lent { Lends kernel.old.core (entry_slots call.now.checked.now call.now.routine) call.now.handles.now }
         requires empty { IsEmpty trace.old }
         // The model's run is one as `run` promises it, and what is noted are its steps.
         ensures ran { (f : VmFile) → IsFileOf (D.medium.honest kernel.old.device) kernel.old.core f
             → Traced (D.medium.honest kernel.old.device) (Throughout D.medium kernel.old.device kernel.new.device)
-            checked.now routine words.now handles.now kernel.old.core kernel.new.core result trace.old trace.new f }
+            call.now.checked.now call.now.routine call.now.words.now call.now.handles.now kernel.old.core kernel.new.core result trace.old trace.new f }
         // The rest is as of `run`.
-        ensures budget { IfSome (slice_get checked.now.routines routine) (λ r. result.steps ≤ r.budget) }
+        ensures budget { IfSome (slice_get call.now.checked.now.routines call.now.routine) (λ r. result.steps ≤ r.budget) }
         ensures sees { SeesDevice D.medium kernel.old × SeesDevice D.medium kernel.new }
         ensures locks { (name : Name) → locks_of kernel.new.core.blocks (slot_of name) ≡ locks_of kernel.old.core.blocks (slot_of name) }
         ensures honest { D.medium.honest kernel.new.device ↔ D.medium.honest kernel.old.device }
         ensures steadily { Steadily D.medium (vm_file_of kernel.old) (vm_file_of kernel.new) }
     {
-        self.trace_watched(
-            checked,
-            routine,
-            words,
-            handles,
-            kernel,
-            trace,
-            &mut Unwatched,
-        )
+        self.trace_watched(call, kernel, trace, &mut Unwatched)
     }
 
     /// Runs a routine as `trace` does. A watcher sees the machine and the kernel before each step.
@@ -78,33 +67,30 @@ impl Machine {
     #[inline(never)]
     pub fn trace_watched<D: Device + Drop, W: Watch>(
         &mut self,
-        checked: &Checked,
-        routine: u16,
-        words: &[u16; 8],
-        handles: &[u16; 4],
+        call: &RoutineCall<'_>,
         kernel: &mut Kernel<D>,
         trace: &mut Trace,
         watcher: &mut W,
     ) -> Outcome
-        requires admitted { admits checked.now routine words.now ≡ true }
-        requires lent { Lends kernel.old.core (entry_slots checked.now routine) handles.now }
+        requires admitted { admits call.now.checked.now call.now.routine call.now.words.now ≡ true }
+        requires lent { Lends kernel.old.core (entry_slots call.now.checked.now call.now.routine) call.now.handles.now }
         requires empty { IsEmpty trace.old }
         // The model's run is one as `run` promises it, and what is noted are its steps.
         ensures ran { (f : VmFile) → IsFileOf (D.medium.honest kernel.old.device) kernel.old.core f
             → Traced (D.medium.honest kernel.old.device) (Throughout D.medium kernel.old.device kernel.new.device)
-            checked.now routine words.now handles.now kernel.old.core kernel.new.core result trace.old trace.new f }
+            call.now.checked.now call.now.routine call.now.words.now call.now.handles.now kernel.old.core kernel.new.core result trace.old trace.new f }
         // The rest is as of `run`.
-        ensures budget { IfSome (slice_get checked.now.routines routine) (λ r. result.steps ≤ r.budget) }
+        ensures budget { IfSome (slice_get call.now.checked.now.routines call.now.routine) (λ r. result.steps ≤ r.budget) }
         ensures sees { SeesDevice D.medium kernel.old × SeesDevice D.medium kernel.new }
         ensures locks { (name : Name) → locks_of kernel.new.core.blocks (slot_of name) ≡ locks_of kernel.old.core.blocks (slot_of name) }
         ensures honest { D.medium.honest kernel.new.device ↔ D.medium.honest kernel.old.device }
         ensures steadily { Steadily D.medium (vm_file_of kernel.old) (vm_file_of kernel.new) }
     {
-        let image = checked.image();
+        let image = call.checked.image();
         kernel.memory_is_legal();
-        self.begin(words, handles);
-        let mut pc = image.start(routine);
-        let budget = image.routine(routine).budget;
+        self.begin(call.words, call.handles);
+        let mut pc = image.start(call.routine);
+        let budget = image.routine(call.routine).budget;
         let mut left = budget;
         let mut returns: ArrayVec<u16, 32> = ArrayVec::new();
         'run: loop {

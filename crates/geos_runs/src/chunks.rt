@@ -42,7 +42,7 @@ fn put_in<'a>(
 }
 
 /// Writes the standard input into a chunk of a VM file, and updates the file. It waits for the file's lock after it has read the input, as
-/// `run` does. `RunFault::NotDone` if a call of the kernel is refused; then the file holds what it held.
+/// `run` does. `RunFault::NotDone` if a call of the kernel is refused; then the file is unchanged.
 pub fn put<'a>(
     rt: &HostRuntime,
     chunk: &ChunkPath<'a>,
@@ -81,7 +81,7 @@ fn bytes_in<'a>(
     }
 }
 
-/// The bytes of a chunk of a VM file. Its lock is let go before they are printed: whoever reads them may want the file next.
+/// The bytes of a chunk of a VM file. The lock is released before the bytes are printed: their reader may open the file next.
 fn bytes_of<'a>(
     rt: &HostRuntime,
     chunk: &ChunkPath<'a>,

@@ -18,7 +18,7 @@ fn changed_blocks(kernel: &Kernel<FileDevice>) -> usize {
         .count()
 }
 
-/// Reports changed blocks of the file with the path that no commit has kept, as a diagnostic.
+/// Reports the changed blocks of the file with the path that no commit has written, as a diagnostic.
 fn tell_of_lost(rt: &HostRuntime, manner: &Manner, path: &str, kernel: &Kernel<FileDevice>) {
     let changed = changed_blocks(kernel);
     if changed == 0 {

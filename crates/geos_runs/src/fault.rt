@@ -4,10 +4,11 @@ use geos_cli::ScriptFault;
 use geos_files::FileFault;
 use geos_shell::{Diagnosed, Named, StreamFault};
 use std::alloc::Global;
+use std::fmt::{self, Display, Formatter};
 use thiserror::Error;
 
 /// Why a session, a script, a call or a trace was not run, or a chunk was not written or read.
-#[derive(Debug, Drop, Error)]
+#[derive(Drop, Error)]
 pub enum RunFault<'a> {
     /// What a path names was not read or written.
     #[error(transparent)]
@@ -27,7 +28,7 @@ pub enum RunFault<'a> {
     /// No public routine has the name that a call gives.
     #[error("bad call: no public routine {}", Named(.0))]
     NoRoutine(&'a str),
-    /// No routine has the name whose steps are asked for.
+    /// No routine has the name whose steps are requested.
     #[error("no routine {}", Named(.0))]
     NoSuchRoutine(&'a str),
     /// What a call gives as this word is no number that the word may be.
@@ -39,6 +40,12 @@ pub enum RunFault<'a> {
     /// A call gives a ninth number.
     #[error("bad call: more than eight numbers")]
     TooManyNumbers,
+}
+
+impl fmt::Debug for RunFault<'_> {
+    fn fmt<W: fmt::Write>(&self, f: &mut Formatter<W>) -> fmt::Result {
+        Display::fmt(self, f)
+    }
 }
 
 impl Diagnosed for RunFault<'_> {

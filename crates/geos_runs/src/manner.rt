@@ -21,19 +21,19 @@ use vm_file::Device;
 pub struct Manner {
     /// What a script does after a refused command.
     pub mode: Mode,
-    /// Whether its lines may write names for words that calls put out.
+    /// Whether its lines may write names for words that calls output.
     pub names: NameUse,
     /// How outputs are written.
     pub form: OutputForm,
     /// What is committed at the end of a run on a file.
     pub commit: Option<EndCommit>,
-    /// Whether changed blocks of a file that no commit has kept are reported.
+    /// Whether changed blocks of a file that no commit has written are reported.
     pub wants_notes: bool,
     /// Whether outputs and notes are JSON objects.
     pub json: bool,
 }
 
-/// Standard output through a buffer, with what is asked of it counted. `ScriptFault::Memory` if there is no memory for the buffer.
+/// Standard output through a buffer, which counts its calls. `ScriptFault::Memory` if there is no memory for the buffer.
 pub(crate) fn output(
     rt: &HostRuntime,
 ) -> Result<Counted<BufWriter<Printer<'_, HostRuntime>, Global>>, ScriptFault> {

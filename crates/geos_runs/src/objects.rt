@@ -5,7 +5,7 @@ ghost use Rattle.vm_blocks.specs.Listed.{NoneLocked};
 use crate::fault::RunFault;
 use crate::manner::{Manner, call_fault, came_to, run_lines_in};
 use crate::tracing::budget_of;
-use geos_cli::{Counted, ScriptFault, TraceFault, TracedCall, trace_call};
+use geos_cli::{Counted, NotedCall, ScriptFault, TraceFault, TracedCall, trace_call};
 use geos_json::JsonLines;
 use geos_kernel::Kernel;
 use geos_shell::{CallWords, print};
@@ -62,6 +62,17 @@ fn call_objects(alloc: Global, traced: &TracedCall) -> Result<Vec<u8>, AllocErro
     objects.finish()
 }
 
+/// A call, of whose steps none is noted.
+fn unnoted_call<'c, 'a>(image: &'c [u8], call: &'c CallWords<'a>) -> NotedCall<'c, 'a> {
+    NotedCall {
+        image,
+        name: call.name,
+        words: call.words.as_slice(),
+        only: None,
+        most: 0,
+    }
+}
+
 /// Runs a call with an image on a kernel of whose VM file no block is locked, and prints objects.
 pub(crate) fn print_call_objects<'a, D: Device + Drop>(
     rt: &HostRuntime,
@@ -72,7 +83,8 @@ pub(crate) fn print_call_objects<'a, D: Device + Drop>(
     requires { NoneLocked kernel.old.core.blocks }
 {
     let alloc = rt.alloc();
-    let traced = match trace_call(alloc, image, call.name, &call.words, None, 0, kernel) {
+    let unnoted = unnoted_call(image, call);
+    let traced = match trace_call(alloc, &unnoted, kernel) {
         Ok(traced) => traced,
         Err(TraceFault::Call(fault)) => return Err(call_fault(call, fault)),
         Err(TraceFault::NoRoutine) => return Err(RunFault::NoRoutine(call.name)),
@@ -120,7 +132,7 @@ pub(crate) fn print_script_objects<'a, D: Device + Drop>(
     came_to(end?)
 }
 
-/// Prints how many changed blocks of a file no commit has kept.
+/// Prints how many changed blocks of a file no commit has written.
 pub(crate) fn print_lost(rt: &HostRuntime, path: &str, changed: usize) {
     let mut objects = JsonLines::new(rt.alloc());
     objects.begin("lost");

@@ -3,12 +3,12 @@
 ghost use Rattle.vm_blocks.specs.Listed.{NoneLocked};
 
 use crate::fault::RunFault;
-use crate::tracing::{Traceable, budget_of, refused_text, text_of, trace_fault};
+use crate::tracing::{Traceable, budget_of, noted_call, refused_text, text_of, trace_fault};
 use geos_cli::{ScriptFault, TracedCall, trace_call_watched};
 use geos_kernel::Kernel;
-use geos_shell::{CallWords, TraceWords, print, write};
+use geos_shell::{TraceWords, print, write};
+use geos_trace::{MOST_STEPS, Notes, Told, html};
 use std::alloc::{AllocError, Global};
-use trace_pages::{MOST_STEPS, Notes, Told, html};
 use vm_file::Device;
 
 /// What a page shows of a text or an image.
@@ -60,17 +60,8 @@ pub(crate) fn page_on<'a, D: Device + Drop>(
     let alloc = rt.alloc();
     let most = words.steps.min(MOST_STEPS);
     let mut notes = Notes::new(alloc, most);
-    let CallWords { name, words: given } = &words.call;
-    let traced = match trace_call_watched(
-        alloc,
-        traceable.image,
-        name,
-        given,
-        None,
-        most as usize,
-        kernel,
-        &mut notes,
-    ) {
+    let noted = noted_call(words, traceable.image, most as usize);
+    let traced = match trace_call_watched(alloc, &noted, kernel, &mut notes) {
         Ok(traced) => traced,
         Err(fault) => return Err(trace_fault(words, fault)),
     };

@@ -19,7 +19,7 @@ struct Traced<'i, 'l> {
 }
 
 impl<'i> Traced<'i, '_> {
-    /// Where an instruction is, and the instruction.
+    /// The place of an instruction, and the instruction.
     fn put_place(&self, objects: &mut JsonLines, pc: u16) -> Result<(), AllocError> {
         let line = match self.lines {
             Some(lines) => lines.get(usize::from(pc)).map(|line| u64::from(*line)),

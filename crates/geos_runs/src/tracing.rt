@@ -8,11 +8,11 @@ use crate::manner::call_fault;
 use crate::objects::refused_object;
 use crate::paging::{Shown, page_on};
 use crate::step_objects::trace_objects;
-use geos_cli::{ScriptFault, TraceFault, TracedCall, trace_call};
+use geos_cli::{NotedCall, ScriptFault, TraceFault, TracedCall, trace_call};
 use geos_files::{Locked, opened, wait_for};
 use geos_image::Image;
 use geos_kernel::{Kernel, kernel_in_memory};
-use geos_shell::{CallWords, Lockable, Sharing, TraceWords, print};
+use geos_shell::{Lockable, Sharing, TraceWords, print};
 use geos_trace::{put_counts, put_end, put_refused, put_steps};
 use std::alloc::{AllocError, Global};
 use vm_file::Device;
@@ -24,7 +24,7 @@ pub struct Traceable<'a> {
     pub image: &'a [u8],
     /// For each pc the number of its line, counted from 1, if the image was made from a text.
     pub lines: Option<&'a [u32]>,
-    /// What a page shows of them, if one is wanted.
+    /// What a page shows of them, if one is required.
     pub shown: Option<Shown<'a>>,
     /// Whether JSON objects are printed.
     pub json: bool,
@@ -72,6 +72,21 @@ pub(crate) fn trace_fault<'a>(words: &TraceWords<'a>, fault: TraceFault) -> RunF
     }
 }
 
+/// The call with an image, of which so many steps are noted at most.
+pub(crate) fn noted_call<'w, 'a>(
+    words: &'w TraceWords<'a>,
+    image: &'w [u8],
+    most: usize,
+) -> NotedCall<'w, 'a> {
+    NotedCall {
+        image,
+        name: words.call.name,
+        words: words.call.words.as_slice(),
+        only: words.only,
+        most,
+    }
+}
+
 /// Runs it on a kernel of whose VM file no block is locked, and prints what was noted.
 fn trace_on<'a, D: Device + Drop>(
     rt: &HostRuntime,
@@ -86,16 +101,8 @@ fn trace_on<'a, D: Device + Drop>(
     }
     let alloc = rt.alloc();
     let most = if words.count { 0 } else { words.steps as usize };
-    let CallWords { name, words: given } = &words.call;
-    let traced = match trace_call(
-        alloc,
-        traceable.image,
-        name,
-        given,
-        words.only,
-        most,
-        kernel,
-    ) {
+    let noted = noted_call(words, traceable.image, most);
+    let traced = match trace_call(alloc, &noted, kernel) {
         Ok(traced) => traced,
         Err(fault) => return Err(trace_fault(words, fault)),
     };

@@ -5,4 +5,5 @@
 
 mod run;
 
-pub use run::{RoutineCall, run_granted};
+pub use geos_machine::RoutineCall;
+pub use run::run_granted;

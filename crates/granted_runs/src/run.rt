@@ -10,8 +10,7 @@ ghost use Rattle.geos_semantics.specs.Lists.{Each};
 ghost use Rattle.granted_runs.specs.Keeps.{RanWithin};
 
 use geos_kernel::Kernel;
-use geos_machine::{Machine, Outcome};
-use geos_verify::Checked;
+use geos_machine::{Machine, Outcome, RoutineCall};
 use vm_file::Device;
 
 /// The same words, each of which is at most 65,535.
@@ -21,19 +20,6 @@ fn copied(words: &[u16; 8]) -> [u16; 8]
 {
     let [w0, w1, w2, w3, w4, w5, w6, w7] = *words;
     [w0, w1, w2, w3, w4, w5, w6, w7]
-}
-
-/// A call of a routine of an accepted image.
-#[derive(Clone, Copy)]
-pub struct RoutineCall<'c> {
-    /// The image.
-    pub checked: &'c Checked,
-    /// The index of the routine.
-    pub routine: u16,
-    /// Its words.
-    pub words: &'c [u16; 8],
-    /// The handles of the blocks that are lent to its slots; 0 for each other slot.
-    pub handles: &'c [u16; 4],
 }
 
 /// Runs a routine as `Machine::run_in_place` does. Let any effects be granted, such that the routine does only those (`geos_grants::grant`

@@ -36,22 +36,22 @@ module _ (bytes name : List ℕ) (words : List (List ℕ)) (only : Option (List 
   no-call image (Script fault) read accepted is = absurd is
 
 pub returns-in-Err-clause-due : goal.returns-in-Err-clause-due
-returns-in-Err-clause-due g c = bad-image c.args.image.now c.args.name.now (texts c.args.words.now)
-    (option_map (λ (word : Bor (List ℕ)). word.now) c.args.only) c.in-Err.fault c.in-Err.ensures.bad
+returns-in-Err-clause-due g c = bad-image c.args.call.now.image.now c.args.call.now.name.now (texts c.args.call.now.words.now)
+    (option_map (λ (word : Bor (List ℕ)). word.now) c.args.call.now.only) c.in-Err.fault c.in-Err.ensures.bad
 
 pub returns-in_default-clause-due : goal.returns-in_default-clause-due
-returns-in_default-clause-due g c = no-call c.args.image.now c.args.name.now (texts c.args.words.now)
-    (option_map (λ (word : Bor (List ℕ)). word.now) c.args.only) c.in-Ok.checked c.why_no_call.result
+returns-in_default-clause-due g c = no-call c.args.call.now.image.now c.args.call.now.name.now (texts c.args.call.now.words.now)
+    (option_map (λ (word : Bor (List ℕ)). word.now) c.args.call.now.only) c.in-Ok.checked c.why_no_call.result
     c.in-Ok.ensures.image.0 c.in-Ok.ensures.image.1 c.why_no_call.ensures
 
 pub returns-in-Ok-trace_lent-clause-ran : goal.returns-in-Ok-trace_lent-clause-ran
 returns-in-Ok-trace_lent-clause-ran g c =
-    let asked = asks _ _ _ _ _ c.in-Some.call c.in-Ok.ensures.image c.call_on.ensures c.in-Some.is in
+    let asked = asks _ _ _ _ _ c.in-Some.asked c.in-Ok.ensures.image c.call_on.ensures c.in-Some.is in
     let made = c.in-Ok-trace_lent.ensures.made in
     let first = made.first ∙ ap (λ (n : Notes). n.first) c.in-Ok-new.ensures in
     let end = made.end ∙ ap (λ (n : Notes). n.end) c.in-Ok-new.ensures in
     record {
-      call = c.in-Some.call;
+      call = c.in-Some.asked;
       asks = asked;
       routine = refl;
       stretch = sym c.stretch_of.ensures ∙ c.in-Some-stretch_of.is ∙ rw (first, end) refl;
@@ -61,5 +61,5 @@ returns-in-Ok-trace_lent-clause-ran g c =
 
 pub returns-in-Err-trace_lent-clause-ran : goal.returns-in-Err-trace_lent-clause-ran
 returns-in-Err-trace_lent-clause-ran g c =
-    let asked = asks _ _ _ _ _ c.in-Some.call c.in-Ok.ensures.image c.call_on.ensures c.in-Some.is in
-    record { image = c.in-Ok.checked; call = c.in-Some.call; asks = asked; refused = c.in-Err-trace_lent.ensures.refused }
+    let asked = asks _ _ _ _ _ c.in-Some.asked c.in-Ok.ensures.image c.call_on.ensures c.in-Some.is in
+    record { image = c.in-Ok.checked; call = c.in-Some.asked; asks = asked; refused = c.in-Err-trace_lent.ensures.refused }

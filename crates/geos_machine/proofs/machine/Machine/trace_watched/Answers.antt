@@ -22,22 +22,22 @@ use Rattle.geos_machine.proofs.machine.Machine.trace_watched.Goals.{At-run}
 
 -- what the run began with, beside a VM file that the model may know
 abbrev origin : (g : given.Over) → At-run g → VmFile → Origin
-origin g c f = origin_of (g.D.Device.medium.honest c.args.kernel.now.device) c.args.checked.now c.image-image.ensures.checked
-    c.args.routine c.args.words.now c.args.handles.now c.args.kernel.now.core f
+origin g c f = origin_of (g.D.Device.medium.honest c.args.kernel.now.device) c.args.call.now.checked.now c.image-image.ensures.checked
+    c.args.call.now.routine c.args.call.now.words.now c.args.call.now.handles.now c.args.kernel.now.core f
 
 -- beside the one that is known
 abbrev known : (g : given.Over) → At-run g → Origin
 known g c = origin g c c.memory_is_legal.ensures.file.0
 
 -- where the next instruction stands
-place-of : (g : given.Over) (c : At-run g) → c.run.pc < length c.args.checked.now.points
+place-of : (g : given.Over) (c : At-run g) → c.run.pc < length c.args.call.now.checked.now.points
 place-of g c = so_far-place (known g c) (c.run.invariant.1 _ c.memory_is_legal.ensures.file.1).so_far
 
 -- there are no more instructions than pcs
 place-within : (g : given.Over) (c : At-run g) → c.run.pc < 4096
 place-within g c =
     let place = place-of g c in
-    let short : length c.args.checked.now.points ≤ 4096 = rw c.image-image.ensures.image at c.start-pc.ensures.short in
+    let short : length c.args.call.now.checked.now.points ≤ 4096 = rw c.image-image.ensures.image at c.start-pc.ensures.short in
     omega (arith, place, short)
 
 -- a step is owed
@@ -49,15 +49,15 @@ run-init g c = (
   stays-honest (g.D.Device.medium.honest c.args.kernel.now.device),
   λ f tied.
       let legal = c.memory_is_legal.ensures in
-      let run = origin_of (g.D.Device.medium.honest c.args.kernel.now.device) c.args.checked.now c.image-image.ensures.checked
-      c.args.routine c.args.words.now c.args.handles.now c.args.kernel.now.core f in
+      let run = origin_of (g.D.Device.medium.honest c.args.kernel.now.device) c.args.call.now.checked.now c.image-image.ensures.checked
+      c.args.call.now.routine c.args.call.now.words.now c.args.call.now.handles.now c.args.kernel.now.core f in
       let there = rw c.image-image.ensures.image at c.routine.ensures in
       let F = so_far-start run (Throughout g.D.Device.medium c.args.kernel.now.device c.args.kernel.now.device)
       (stops-first g.D.Device.medium c.args.kernel.now f tied
       (g.met.D.Device.at_once c.args.kernel.now.device) c.memory_is_legal.ensures.kept) c.begin.new.self
       c.new-returns.result.items c.start-pc.result c.routine.result.now tied (legal.legal f tied)
       (lends-lent (g.D.Device.medium.honest c.args.kernel.now.device) c.args.kernel.now.core f tied (legal.locks f tied)
-      (entry_slots c.args.checked.now c.args.routine) c.args.handles.now c.requires.lent) c.begin.ensures.small
+      (entry_slots c.args.call.now.checked.now c.args.call.now.routine) c.args.call.now.handles.now c.requires.lent) c.begin.ensures.small
       (c.begin.ensures.slots, c.begin.ensures.four)
       there c.requires.admitted c.begin.ensures.words c.begin.ensures.counters c.begin.ensures.output c.new-returns.ensures
       (rw c.image-image.ensures.image at c.start-pc.ensures.start) in
@@ -98,8 +98,8 @@ note-requires-clause-counted g c =
     let sums = T.so_far.counted in
     let fits : c.routine.result.now.budget ≤ 4294967295 = omega arith in
     let pc_is : c.noted.result.pc ≡ c.run.pc = ap (λ (x : Noted). x.pc) c.noted.ensures in
-    rw pc_is (count-room c.args.checked.now c.run.trace T.so_far.choices
-    (begin c.args.checked.now c.args.routine c.args.words.now c.args.handles.now
+    rw pc_is (count-room c.args.call.now.checked.now c.run.trace T.so_far.choices
+    (begin c.args.call.now.checked.now c.args.call.now.routine c.args.call.now.words.now c.args.call.now.handles.now
     (memory_of c.args.kernel.now.core c.memory_is_legal.ensures.file.0)) c.run.pc c.run.left T.so_far.routine.budget
     T.tells place sums owed (omega (arith, budget, fits)))
 
@@ -117,8 +117,8 @@ overflow_add-pc-in-Calls g c = let place = place-within g (goal.at.overflow_add-
 
 pub push-requires : goal.push-requires
 push-requires g c =
-    let run = origin_of (g.D.Device.medium.honest c.args.kernel.now.device) c.args.checked.now c.image-image.ensures.checked
-    c.args.routine c.args.words.now c.args.handles.now c.args.kernel.now.core c.memory_is_legal.ensures.file.0 in
+    let run = origin_of (g.D.Device.medium.honest c.args.kernel.now.device) c.args.call.now.checked.now c.image-image.ensures.checked
+    c.args.call.now.routine c.args.call.now.words.now c.args.call.now.handles.now c.args.kernel.now.core c.memory_is_legal.ensures.file.0 in
     let works = alike-works (g.D.Device.medium.honest c.run.kernel.device) run.honest c.run.invariant.0
     c.instr-instr.result.now c.run.kernel.core c.step-goes.new.kernel.core c.run.self c.step-goes.new.m c.step-goes.result
     c.step-goes.ensures.works in
@@ -134,8 +134,8 @@ push-requires g c =
 
 pub start-pc-requires-in-Calls : goal.start-pc-requires-in-Calls
 start-pc-requires-in-Calls g c =
-    let run = origin_of (g.D.Device.medium.honest c.args.kernel.now.device) c.args.checked.now c.image-image.ensures.checked
-    c.args.routine c.args.words.now c.args.handles.now c.args.kernel.now.core c.memory_is_legal.ensures.file.0 in
+    let run = origin_of (g.D.Device.medium.honest c.args.kernel.now.device) c.args.call.now.checked.now c.image-image.ensures.checked
+    c.args.call.now.routine c.args.call.now.words.now c.args.call.now.handles.now c.args.kernel.now.core c.memory_is_legal.ensures.file.0 in
     let works = alike-works (g.D.Device.medium.honest c.run.kernel.device) run.honest c.run.invariant.0
     c.instr-instr.result.now c.run.kernel.core c.step-goes.new.kernel.core c.run.self c.step-goes.new.m c.step-goes.result
     c.step-goes.ensures.works in
@@ -176,8 +176,8 @@ run-preserved-in-Along g c = (
       (g.D.Device.medium.honest c.args.kernel.now.device) c.step-goes.ensures.between.honest c.run.invariant.0,
   λ f tied.
       let place = place-within g (goal.at.run-preserved-in-Along g c).At-run in
-      let run = origin_of (g.D.Device.medium.honest c.args.kernel.now.device) c.args.checked.now c.image-image.ensures.checked
-      c.args.routine c.args.words.now c.args.handles.now c.args.kernel.now.core f in
+      let run = origin_of (g.D.Device.medium.honest c.args.kernel.now.device) c.args.call.now.checked.now c.image-image.ensures.checked
+      c.args.call.now.routine c.args.call.now.words.now c.args.call.now.handles.now c.args.kernel.now.core f in
       let works = alike-works (g.D.Device.medium.honest c.run.kernel.device) run.honest c.run.invariant.0
       c.instr-instr.result.now c.run.kernel.core c.step-goes.new.kernel.core c.run.self c.step-goes.new.m
       c.step-goes.result c.step-goes.ensures.works in
@@ -203,8 +203,8 @@ run-preserved-in-Past g c = (
       (g.D.Device.medium.honest c.args.kernel.now.device) c.step-goes.ensures.between.honest c.run.invariant.0,
   λ f tied.
       let place = place-within g (goal.at.run-preserved-in-Past g c).At-run in
-      let run = origin_of (g.D.Device.medium.honest c.args.kernel.now.device) c.args.checked.now c.image-image.ensures.checked
-      c.args.routine c.args.words.now c.args.handles.now c.args.kernel.now.core f in
+      let run = origin_of (g.D.Device.medium.honest c.args.kernel.now.device) c.args.call.now.checked.now c.image-image.ensures.checked
+      c.args.call.now.routine c.args.call.now.words.now c.args.call.now.handles.now c.args.kernel.now.core f in
       let works = alike-works (g.D.Device.medium.honest c.run.kernel.device) run.honest c.run.invariant.0
       c.instr-instr.result.now c.run.kernel.core c.step-goes.new.kernel.core c.run.self c.step-goes.new.m
       c.step-goes.result c.step-goes.ensures.works in
@@ -230,8 +230,8 @@ run-preserved-in-Further g c = (
       (g.D.Device.medium.honest c.args.kernel.now.device) c.step-goes.ensures.between.honest c.run.invariant.0,
   λ f tied.
       let place = place-within g (goal.at.run-preserved-in-Further g c).At-run in
-      let run = origin_of (g.D.Device.medium.honest c.args.kernel.now.device) c.args.checked.now c.image-image.ensures.checked
-      c.args.routine c.args.words.now c.args.handles.now c.args.kernel.now.core f in
+      let run = origin_of (g.D.Device.medium.honest c.args.kernel.now.device) c.args.call.now.checked.now c.image-image.ensures.checked
+      c.args.call.now.routine c.args.call.now.words.now c.args.call.now.handles.now c.args.kernel.now.core f in
       let works = alike-works (g.D.Device.medium.honest c.run.kernel.device) run.honest c.run.invariant.0
       c.instr-instr.result.now c.run.kernel.core c.step-goes.new.kernel.core c.run.self c.step-goes.new.m
       c.step-goes.result c.step-goes.ensures.works in
@@ -257,8 +257,8 @@ run-preserved-in-To g c = (
       (g.D.Device.medium.honest c.args.kernel.now.device) c.step-goes.ensures.between.honest c.run.invariant.0,
   λ f tied.
       let place = place-within g (goal.at.run-preserved-in-To g c).At-run in
-      let run = origin_of (g.D.Device.medium.honest c.args.kernel.now.device) c.args.checked.now c.image-image.ensures.checked
-      c.args.routine c.args.words.now c.args.handles.now c.args.kernel.now.core f in
+      let run = origin_of (g.D.Device.medium.honest c.args.kernel.now.device) c.args.call.now.checked.now c.image-image.ensures.checked
+      c.args.call.now.routine c.args.call.now.words.now c.args.call.now.handles.now c.args.kernel.now.core f in
       let works = alike-works (g.D.Device.medium.honest c.run.kernel.device) run.honest c.run.invariant.0
       c.instr-instr.result.now c.run.kernel.core c.step-goes.new.kernel.core c.run.self c.step-goes.new.m
       c.step-goes.result c.step-goes.ensures.works in
@@ -284,8 +284,8 @@ run-preserved-in-Back g c = (
       (g.D.Device.medium.honest c.args.kernel.now.device) c.step-goes.ensures.between.honest c.run.invariant.0,
   λ f tied.
       let place = place-within g (goal.at.run-preserved-in-Back g c).At-run in
-      let run = origin_of (g.D.Device.medium.honest c.args.kernel.now.device) c.args.checked.now c.image-image.ensures.checked
-      c.args.routine c.args.words.now c.args.handles.now c.args.kernel.now.core f in
+      let run = origin_of (g.D.Device.medium.honest c.args.kernel.now.device) c.args.call.now.checked.now c.image-image.ensures.checked
+      c.args.call.now.routine c.args.call.now.words.now c.args.call.now.handles.now c.args.kernel.now.core f in
       let works = alike-works (g.D.Device.medium.honest c.run.kernel.device) run.honest c.run.invariant.0
       c.instr-instr.result.now c.run.kernel.core c.step-goes.new.kernel.core c.run.self c.step-goes.new.m
       c.step-goes.result c.step-goes.ensures.works in
@@ -311,8 +311,8 @@ run-preserved-in-Calls g c = (
       (g.D.Device.medium.honest c.args.kernel.now.device) c.step-goes.ensures.between.honest c.run.invariant.0,
   λ f tied.
       let place = place-within g (goal.at.run-preserved-in-Calls g c).At-run in
-      let run = origin_of (g.D.Device.medium.honest c.args.kernel.now.device) c.args.checked.now c.image-image.ensures.checked
-      c.args.routine c.args.words.now c.args.handles.now c.args.kernel.now.core f in
+      let run = origin_of (g.D.Device.medium.honest c.args.kernel.now.device) c.args.call.now.checked.now c.image-image.ensures.checked
+      c.args.call.now.routine c.args.call.now.words.now c.args.call.now.handles.now c.args.kernel.now.core f in
       let works = alike-works (g.D.Device.medium.honest c.run.kernel.device) run.honest c.run.invariant.0
       c.instr-instr.result.now c.run.kernel.core c.step-goes.new.kernel.core c.run.self c.step-goes.new.m
       c.step-goes.result c.step-goes.ensures.works in
@@ -339,8 +339,8 @@ run-preserved g c = (
       (g.D.Device.medium.honest c.args.kernel.now.device) c.step-goes.ensures.between.honest c.run.invariant.0,
   λ f tied.
       let place = place-within g (goal.at.run-preserved g c).At-run in
-      let run = origin_of (g.D.Device.medium.honest c.args.kernel.now.device) c.args.checked.now c.image-image.ensures.checked
-      c.args.routine c.args.words.now c.args.handles.now c.args.kernel.now.core f in
+      let run = origin_of (g.D.Device.medium.honest c.args.kernel.now.device) c.args.call.now.checked.now c.image-image.ensures.checked
+      c.args.call.now.routine c.args.call.now.words.now c.args.call.now.handles.now c.args.kernel.now.core f in
       let works = alike-works (g.D.Device.medium.honest c.run.kernel.device) run.honest c.run.invariant.0
       c.instr-instr.result.now c.run.kernel.core c.step-goes.new.kernel.core c.run.self c.step-goes.new.m
       c.step-goes.result c.step-goes.ensures.works in
@@ -373,8 +373,8 @@ overflow_sub-result g c =
 pub returns-clause-ran : goal.returns-clause-ran
 returns-clause-ran g c = λ f tied.
     let place = place-within g (goal.at.returns-clause-ran g c).At-run in
-    let run = origin_of (g.D.Device.medium.honest c.args.kernel.now.device) c.args.checked.now c.image-image.ensures.checked
-    c.args.routine c.args.words.now c.args.handles.now c.args.kernel.now.core f in
+    let run = origin_of (g.D.Device.medium.honest c.args.kernel.now.device) c.args.call.now.checked.now c.image-image.ensures.checked
+    c.args.call.now.routine c.args.call.now.words.now c.args.call.now.handles.now c.args.kernel.now.core f in
     let works = alike-works (g.D.Device.medium.honest c.run.kernel.device) run.honest c.run.invariant.0
     c.instr-instr.result.now c.run.kernel.core c.step-goes.new.kernel.core c.run.self c.step-goes.new.m c.step-goes.result
     c.step-goes.ensures.works in
@@ -399,7 +399,7 @@ returns-clause-ran g c = λ f tied.
     c.in-Returns.is (none-left c.run.returns.items (λ lt. let e : false ≡ true = c.in-None.ensures.variant.1 lt in absurd cc))
     refl (rw c.take.ensures.value refl) refl budget c.requires.admitted
     (lends-lent (g.D.Device.medium.honest c.args.kernel.now.device) c.args.kernel.now.core f tied
-    (c.memory_is_legal.ensures.locks f tied) (entry_slots c.args.checked.now c.args.routine) c.args.handles.now c.requires.lent)))
+    (c.memory_is_legal.ensures.locks f tied) (entry_slots c.args.call.now.checked.now c.args.call.now.routine) c.args.call.now.handles.now c.requires.lent)))
 
 pub returns-clause-steadily : goal.returns-clause-steadily
 returns-clause-steadily g c = steadily_then g.D.Device.medium (vm_file_of c.args.kernel.now) (vm_file_of c.run.kernel)

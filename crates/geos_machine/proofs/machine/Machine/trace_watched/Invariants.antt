@@ -12,8 +12,8 @@ invariant-run g l =
     let honest = g.D.Device.medium.honest l.fn.kernel.device in
     (g.D.Device.medium.honest l.kernel.device ↔ honest)
     × ((f : VmFile) → IsFileOf honest l.fn.kernel.core f
-    → TracedSoFar honest (Throughout g.D.Device.medium l.fn.kernel.device l.kernel.device) l.checked l.routine l.words
-    l.handles l.fn.kernel.core f l.kernel.core l.self l.returns.items l.pc l.left l.fn.trace l.trace)
+    → TracedSoFar honest (Throughout g.D.Device.medium l.fn.kernel.device l.kernel.device) l.call.checked.now l.call.routine l.call.words.now
+    l.call.handles.now l.fn.kernel.core f l.kernel.core l.self l.returns.items l.pc l.left l.fn.trace l.trace)
     × Steadily g.D.Device.medium (vm_file_of l.fn.kernel) (vm_file_of l.kernel)
 
 -- what is left of the budget falls with each step
