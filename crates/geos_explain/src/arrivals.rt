@@ -1,4 +1,4 @@
-//! What is known of a pointer on some way to each instruction of a routine; the rows say only what holds on all ways.
+//! What is known of a pointer on some path to each instruction of a routine; the rows say only what holds on all paths.
 
 ghost use Rattle.std.specs.Prelude.{◌≡◌, ◌<◌, Some, slice_get};
 ghost use Rattle.geos_explain.specs.Places.{place_of};
@@ -17,7 +17,7 @@ use geos_verify::{Place as KnownPlace, has_edge, pointer_at};
 /// For each pc what is known of a pointer on the way there that was found first, if there is one.
 pub(crate) type Arrivals = [Option<Pointer>; 4096];
 
-/// What is known of the pointer on some way to the pc.
+/// What is known of the pointer on some path to the pc.
 pub(crate) fn arrival(arrivals: &Arrivals, pc: usize) -> Option<Pointer>
     ensures { result ≡ arrival arrivals.now pc }
 {

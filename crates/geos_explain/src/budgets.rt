@@ -146,8 +146,8 @@ fn put_unset_item(out: &mut Saying, place: &Place, k: u8)
     }
 }
 
-/// A law: an instruction that is named takes from the counter, and a way leads to it from the place on which no instruction
-/// sets the counter or takes from it, and on which the counter pays all along.
+/// Lemma: a named instruction takes from the counter, and some path leads from the place to it on which no instruction sets the counter
+/// or takes from it, and on which the counter pays all along.
 pub fn what_is_said_of_counters_holds()
     ensures { WhatIsSaidOfCountersHolds }
 {}
@@ -181,8 +181,10 @@ fn calling_on(place: &Place) -> Option<u16>
 fn put_never_served(out: &mut Saying, place: &Place, from: u16)
     requires { IsNeverServed (place_of place.now) from }
 {
-    out.at(": no budget is enough, since CALL at", from)
-        .text(" names no earlier routine");
+    out.say(
+        ": no budget is enough, since CALL at@ names no earlier routine",
+        from as u64,
+    );
 }
 
 /// Which budget is enough: none if there is such a call, and otherwise the least that the potential is within.
@@ -237,10 +239,12 @@ fn put_any(out: &mut Saying, place: &Place, from: u16)
 {
     match place.image.point(from) {
         Some(point) => {
-            out.number("; w", point.instr.b as u64)
-                .at(" may be 65535 at", from)
-                .number(", which sets k", point.instr.a as u64)
-                .text(": bound it by CHK before that");
+            out.say3(
+                "; w# may be 65535 at@, which sets k#: bound it by CHK before that",
+                point.instr.b as u64,
+                from as u64,
+                point.instr.a as u64,
+            );
         },
         None => {}
     }
@@ -254,7 +258,7 @@ fn put_any_item(out: &mut Saying, place: &Place) {
     }
 }
 
-/// A law: an instruction that is named sets a counter to a word of which nothing is known there.
+/// Lemma: a named instruction sets a counter to a word of which nothing is known there.
 pub fn what_is_said_of_words_holds()
     ensures { WhatIsSaidOfWordsHolds }
 {}
@@ -269,7 +273,7 @@ pub(crate) fn put_over(out: &mut Saying, place: &Place) {
     put_any_item(out, place)
 }
 
-/// A law: a call for which no budget is said to be enough is one of the routine, and the rule on calls refuses it whatever the
+/// Lemma: a call for which no budget is reported to be enough is one of the routine, and the rule on calls refuses it whatever the
 /// budget is.
 pub fn what_is_said_of_budgets_holds()
     ensures { WhatIsSaidOfBudgetsHolds }

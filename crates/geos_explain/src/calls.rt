@@ -107,19 +107,17 @@ pub(crate) fn forbids(image: &Filled, r: u16, state: SlotState) -> Option<&'stat
 /// A slot that has a block is to be emptied before a CALL of a routine that forbids it.
 fn put_emptied(out: &mut Saying, a: u8, state: SlotState, name: &[u8], why: &str) {
     out.text(unlocking(state))
-        .number(" s", a as u64)
-        .name(" before the CALL, since ", name)
+        .say_of(" s# before the CALL, since %", name, a as u64)
         .text(why);
 }
 
 /// A routine that a CALL names locks a block into the slot.
 fn put_locked(out: &mut Saying, a: u8, name: &[u8]) {
-    out.name("", name)
-        .number(" locks a block into s", a as u64)
-        .name(
-            " itself: lock this one into another slot, and say that in the in and out lines of ",
-            name,
-        );
+    out.say_of(
+        "% locks a block into s# itself: lock this one into another slot, and say that in the in and out lines of %",
+        name,
+        a as u64,
+    );
 }
 
 /// What to do with a slot that has a block at a CALL of a routine that requires it empty.

@@ -29,23 +29,26 @@ fn name_text(name: &[u8; 16]) -> &[u8] {
 /// A CALL requires a slot empty that has a block, and leaves it empty.
 fn put_unsaid(out: &mut Saying, a: u8, emptied: &Emptied) {
     let name = name_text(&emptied.callee);
-    out.at("; CALL at", emptied.at)
-        .number(" requires that s", a as u64)
-        .number(" is empty, and leaves it so: unlock s", a as u64)
-        .name(" before the CALL; or, if ", name)
-        .number(
-            " is private, does not write the file and locks nothing into s",
-            a as u64,
-        )
-        .slot(", say", a, emptied.state)
-        .name(" in the in and out lines of ", name);
+    let slot = a as u64;
+    out.say3(
+        "; CALL at@ requires that s# is empty, and leaves it so: unlock s# before the CALL; or, if ",
+        emptied.at as u64,
+        slot,
+        slot,
+    )
+    .say_of(
+        "% is private, does not write the file and locks nothing into s#, say",
+        name,
+        slot,
+    )
+    .slot("", a, emptied.state)
+    .name(" in the in and out lines of ", name);
 }
 
 /// A CALL of a later routine leaves a slot empty.
 fn put_later(out: &mut Saying, a: u8, emptied: &Emptied) {
-    out.at("; CALL at", emptied.at)
-        .number(" leaves s", a as u64)
-        .name(" empty: ", name_text(&emptied.callee))
+    out.say2("; CALL at@ leaves s# empty: ", emptied.at as u64, a as u64)
+        .name("", name_text(&emptied.callee))
         .text(" comes after this routine, so move it before this one");
 }
 
@@ -69,9 +72,11 @@ fn last_call(instrs: &[Instr], from: u16, a: u8) -> Option<u16> {
 
 /// A CALL left a slot as the `out` line of its routine says, which is to have what it has on another way.
 fn put_left(out: &mut Saying, a: u8, call: u16, other: SlotState) {
-    out.at("; CALL at", call)
-        .number(" leaves in s", a as u64)
-        .text(" what the out line of its routine says: ");
+    out.say2(
+        "; CALL at@ leaves in s# what the out line of its routine says: ",
+        call as u64,
+        a as u64,
+    );
     if is_empty(other) {
         out.text("unlock it after the CALL");
     } else {
@@ -145,7 +150,7 @@ fn put_from(out: &mut Saying, instrs: &[Instr], coming: &Coming) {
 /// What a slot has.
 fn put_state(out: &mut Saying, a: u8, state: SlotState) {
     if is_empty(state) {
-        out.number(" s", a as u64).text(" empty");
+        out.say(" s# empty", a as u64);
     } else {
         out.slot("", a, state);
     }
@@ -166,12 +171,12 @@ fn put_coming(out: &mut Saying, instrs: &[Instr], coming: &Coming, other: &Comin
 fn put_label(out: &mut Saying, instrs: &[Instr], coming: &Coming) {
     if let Some(edge) = coming.from {
         if edge.branch && is_refusable(instrs, edge.from) {
-            out.at("give", edge.from).text(" another label, or ");
+            out.say("give@ another label, or ", edge.from as u64);
         }
     }
 }
 
-/// Slots differ where ways meet, the CALLs by which they do, or what else helps.
+/// Slots that differ where paths join, with the CALLs because of which they do, or another cure.
 fn put_apart(out: &mut Saying, instrs: &[Instr], apart: &Apart) {
     out.at("at", apart.to).text(",");
     put_coming(out, instrs, &apart.first, &apart.second);
@@ -192,7 +197,7 @@ fn put_alike(out: &mut Saying, instrs: &[Instr], apart: &Apart) {
     out.text("lock and unlock alike on both paths");
 }
 
-/// A text, a way by which control goes round, which may lead ahead, of a LOOP to its target, and what helps.
+/// A text, an edge that closes a cycle, which may be that of a LOOP to a later target, and a cure.
 fn put_back(out: &mut Saying, text: &'static str, back: &BackWay, cure: &'static str) {
     let leads = either(back.from < back.to, " leads on to", " goes back to");
     out.at(text, back.from).at(leads, back.to).text(cure);
@@ -207,18 +212,20 @@ fn put_within(
     cure: &'static str,
 ) {
     if touches {
-        out.at("the CALL at", within.at)
-            .number(" touches k", within.counter as u64);
+        out.say2(
+            "the CALL at@ touches k#",
+            within.at as u64,
+            within.counter as u64,
+        );
     } else {
-        out.number("k", within.counter as u64)
-            .at(" is set at", within.at);
+        out.say2("k# is set at@", within.counter as u64, within.at as u64);
     }
     put_back(out, text, &within.back, cure)
 }
 
 /// A counter is set in the loop of a way that leads back.
 fn put_set_in(out: &mut Saying, counter: u8, at: u16, back: &BackWay) {
-    out.number("k", counter as u64).at(" at", at);
+    out.say2("k# at@", counter as u64, at as u64);
     put_back(out, " in the loop where", back, "")
 }
 
@@ -242,9 +249,12 @@ fn put_in_ring(out: &mut Saying, ring: &LoopRing) {
 
 /// Where a word that sets a counter may be too much.
 fn put_word(out: &mut Saying, text: &str, by: &ByWord) {
-    out.number(text, by.word as u64)
-        .number(" may be ", by.most as u64)
-        .at(" at", by.at);
+    out.text(text).say3(
+        "# may be # at@",
+        by.word as u64,
+        by.most as u64,
+        by.at as u64,
+    );
 }
 
 /// The steps may pass the greatest number, since a counter is set to a word.
@@ -264,10 +274,12 @@ const CHECK: &str = ": CHK it by a lower number before that";
 
 /// A counter is set to a number that is too high, and what helps.
 fn put_number(out: &mut Saying, text: &str, by: &ByNumber) {
-    out.number(text, by.counter as u64)
-        .number(" is set to ", by.number as u64)
-        .at(" at", by.at)
-        .text(": set it to a lower number");
+    out.text(text).say3(
+        "# is set to # at@: set it to a lower number",
+        by.counter as u64,
+        by.number as u64,
+        by.at as u64,
+    );
 }
 
 /// Nothing sets the counter of a LOOP on a path to it.
@@ -281,7 +293,7 @@ fn put_not_set(out: &mut Saying, own: &LoopOn) {
     )
 }
 
-/// What is said of the counter of a loop.
+/// The sentence on the counter of a loop.
 fn put_counter(out: &mut Saying, cause: &Cause) {
     match cause {
         Cause::SetWithin(within) | Cause::SetAgain(within) => put_within(
@@ -309,7 +321,7 @@ fn put_counter(out: &mut Saying, cause: &Cause) {
     }
 }
 
-/// What is said of a loop for which no steps are found, and what helps.
+/// The sentence on a loop for which no steps are found, with a cure.
 fn put_loop(out: &mut Saying, cause: &Cause) {
     match cause {
         Cause::NoLoop(back) => put_back(
@@ -340,7 +352,7 @@ fn put_loop(out: &mut Saying, cause: &Cause) {
     }
 }
 
-/// What is said if no place is named.
+/// The sentence if no place is named.
 fn plain(cause: &Cause) -> &'static str {
     match cause {
         Cause::StepsPass =>

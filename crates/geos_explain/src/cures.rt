@@ -35,9 +35,12 @@ fn put_apart(out: &mut Saying, pair: u8) {
 
 /// A pointer as in a line `in` or `out`.
 fn put_leads(out: &mut Saying, p: u8, pointer: Pointer) {
-    out.number(" p", p as u64)
-        .number("=s", pointer.slot as u64)
-        .number(":", pointer.least as u64);
+    out.say3(
+        " p#=s#:#",
+        p as u64,
+        pointer.slot as u64,
+        pointer.least as u64,
+    );
 }
 
 /// The item as it is in a line `in` or `out`. Of a slot that is to have a block, what the row has there.
@@ -45,7 +48,7 @@ fn put_item(out: &mut Saying, place: &Place, item: Item, row: &Row) {
     match item {
         Item::Bound(w, most) => {
             let bound = bound_before(place, item, row, w, most);
-            out.number(" w", w as u64).number("<=", bound as u64);
+            out.say2(" w#<=#", w as u64, bound as u64);
         }
         Item::Slot(a, state) => {
             out.slot("", a, state);
@@ -67,11 +70,13 @@ fn put_say(out: &mut Saying, place: &Place, item: Item, row: &Row, name: &[u8]) 
 
 /// A pointer is to be fetched again, or said in the lines of a routine that leaves its slot.
 fn put_again(out: &mut Saying, p: u8, pointer: Pointer, change: Change, name: &[u8]) {
-    out.number(": fetch p", p as u64).text(" again after it");
+    out.say(": fetch p# again after it", p as u64);
     if let Change::Leaves = change {
-        out.name(", or, if ", name)
-            .number(" moves nothing in s", pointer.slot as u64)
-            .text(", say");
+        out.say_of(
+            ", or, if % moves nothing in s#, say",
+            name,
+            pointer.slot as u64,
+        );
         put_leads(out, p, pointer);
         out.name(" in the in and out lines of ", name);
     }
@@ -94,10 +99,12 @@ fn put_changed(out: &mut Saying, a: u8, change: Change, name: &[u8]) {
 
 /// A slot is to be unlocked before a CALL, for this reason.
 fn put_before(out: &mut Saying, a: u8, state: SlotState, name: &[u8], why: &'static str) {
-    out.text(": ")
-        .text(unlocking(state))
-        .number(" s", a as u64)
-        .name(" before it, and lock it again after it, since ", name)
+    out.name(": ", unlocking(state).as_bytes())
+        .say_of(
+            " s# before it, and lock it again after it, since %",
+            name,
+            a as u64,
+        )
         .text(why);
 }
 
@@ -130,12 +137,11 @@ fn put_forgotten_at(out: &mut Saying, place: &Place, item: Item, from: u16, poin
     requires { IsForgottenBy (place_of place.now) item from }
 {
     let r = point.instr.imm;
-    out.at("; CALL at", from)
-        .name(
-            " leaves only what the out line of ",
-            name_at(place.image, r),
-        )
-        .text(" says");
+    out.say_of(
+        "; CALL at@ leaves only what the out line of % says",
+        name_at(place.image, r),
+        from as u64,
+    );
     put_kept_wish(out, place, item, r, &point.row)
 }
 
@@ -166,10 +172,11 @@ fn put_bound_cure(out: &mut Saying, place: &Place, wanted: &Row, w: u8)
 
 /// The block of a slot is to be marked.
 fn put_marking(out: &mut Saying, a: u8, state: SlotState) {
-    out.text("; ")
-        .text(mark_word(state))
-        .number(" s", a as u64)
-        .text(" before this marks it");
+    out.say_of(
+        "; % s# before this marks it",
+        mark_word(state).as_bytes(),
+        a as u64,
+    );
 }
 
 /// What a slot is to have that it does not have, and that no CALL took: at a return, or elsewhere.
@@ -211,9 +218,12 @@ fn put_slot_cure(out: &mut Saying, place: &Place, wanted: &Row, a: u8) {
 
 /// The pointer leads into another slot.
 fn put_other_slot(out: &mut Saying, p: u8, known: u8, wanted: u8) {
-    out.number("; p", p as u64)
-        .number(" leads into s", known as u64)
-        .number(": fetch it from s", wanted as u64);
+    out.say3(
+        "; p# leads into s#: fetch it from s#",
+        p as u64,
+        known as u64,
+        wanted as u64,
+    );
 }
 
 /// The same of where a pointer leads. Whether it was followed back, which `follows` allows.
@@ -244,9 +254,11 @@ fn put_pointer_cure(out: &mut Saying, place: &Place, wanted: &Row, p: u8, follow
 
 /// Two slots are to be compared.
 fn put_comparing(out: &mut Saying, a: u8, b: u8) {
-    out.number("; SNE s", a as u64)
-        .number(" s", b as u64)
-        .text(" L before this tells them apart");
+    out.say2(
+        "; SNE s# s# L before this tells them apart",
+        a as u64,
+        b as u64,
+    );
 }
 
 /// The same of two slots that are to have different blocks.

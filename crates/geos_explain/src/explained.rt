@@ -16,16 +16,16 @@ pub(crate) struct Explained<'a> {
     pub image: &'a Filled<'a>,
     /// What control reaches.
     pub marks: &'a Marks,
-    /// For each pc the rule that is told there, if one is.
+    /// For each pc the rule that is reported there, if there is one.
     pub refused: &'a [Option<Rule>],
-    /// The first pc whose refusal is not told, since so many before it are.
+    /// The first pc whose refusal is not reported, since the limit is reached.
     pub untold: usize,
     ghost marked: { Marking marks.now (is_reached image.now) },
     ghost told: { IsFirstUntold refused.now (most_told (length image.now.points)) untold },
 }
 
 impl<'a> Explained<'a> {
-    /// The image, where control reaches what is marked, and these rules are told.
+    /// The image, with the reachable pcs marked, and the rules that are reported.
     pub fn of(image: &'a Filled<'a>, marks: &'a Marks, told: &'a [Option<Rule>]) -> Explained<'a>
         requires { Marking marks.now (is_reached image.now) }
     {

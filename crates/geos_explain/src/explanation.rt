@@ -105,7 +105,7 @@ fn last_begun(image: &Filled, pc: u16) -> Option<u16>
     last
 }
 
-/// What is said of the instruction at a pc of the routine that it lies in.
+/// The notes on the instruction at a pc.
 fn put_noted_at(out: &mut Saying, explained: &Explained, pc: u16)
     requires { pc < length explained.now.image.now.points }
 {
@@ -137,7 +137,7 @@ fn is_line_of(lines: &[u32], pc: u16, number: usize) -> bool
     }
 }
 
-/// A line with its number. If `pc`, the next instruction, is on it, what is said of the instruction follows.
+/// A line with its number. If `pc`, the next instruction, is on it, the notes on the instruction follow.
 fn put_line(out: &mut Saying, explained: &Explained, pc: u16, number: usize, text: &[u8]) {
     out.number("", number as u64).name("\t", text);
     if is_line_of(out.lines, pc, number) && pc < explained.image.len() {

@@ -33,14 +33,14 @@ pub(crate) enum End {
 pub(crate) struct Loss {
     /// The edge on which it did.
     pub edge: Edge,
-    /// What is known of the pointer on some way there.
+    /// What is known of the pointer on some path to the place.
     pub hint: Option<Pointer>,
 }
 
 /// What is found of a pointer that is not known.
 #[derive(Clone, Copy)]
 pub(crate) struct Finding {
-    /// Where ways meet, of which one brings the pointer and another does not.
+    /// Where paths join of which one brings the pointer and another does not.
     pub meeting: Option<Meeting>,
     /// Why it is not known, on the way that does not bring it.
     pub end: Option<End>,

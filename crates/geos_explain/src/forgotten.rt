@@ -26,7 +26,7 @@ pub(crate) enum Item {
     Bound(u8, u16),
     /// The slot holds this.
     Slot(u8, SlotState),
-    /// The slot is held.
+    /// The slot holds a block.
     Held(u8),
     /// The pointer leads there.
     Leads(u8, Pointer),
@@ -136,8 +136,8 @@ pub(crate) fn forgetting_call(place: &Place, item: Item) -> Option<u16>
     last
 }
 
-/// A law: a call that is said to forget something is one of the routine; the row before it knows that, the row after it
-/// does not, and from there a way leads to the place on which no row knows it.
+/// Lemma: a call that is reported to forget an item is one of the routine; the row before it has the item, the row after it
+/// does not, and from there a path leads to the place on which no row has it.
 pub fn what_is_said_of_calls_holds()
     ensures { WhatIsSaidOfCallsHolds }
 {}
@@ -202,13 +202,13 @@ fn put_moved(out: &mut Saying, place: &Place, w: u8, most: u16, from: u16)
     requires { IsMovedRound (place_of place.now) (Bound w most) w from }
 {
     if let Some(point) = place.image.place(from) {
-        out.text("; ")
-            .text(point.instr.opcode.word())
-            .at(" at", from)
-            .number(" changes w", w as u64)
-            .number(" in each iteration, and w", w as u64)
-            .number("<=", most as u64)
-            .text(" is not known then");
+        out.say_of("; % at@", point.instr.opcode.word().as_bytes(), from as u64)
+            .say3(
+                " changes w# in each iteration, and w#<=# is not known then",
+                w as u64,
+                w as u64,
+                most as u64,
+            );
     }
 }
 
@@ -222,8 +222,8 @@ pub(crate) fn put_moved_round(out: &mut Saying, place: &Place, item: Item) {
     }
 }
 
-/// A law: an instruction that is said to move an index going round does; ways lead from it to the place and from there back
-/// to it, and no row on them knows the bound that is required.
+/// Lemma: an instruction that is reported to change an index in each iteration does so; paths lead from it to the place and from there back
+/// to it, and no row on them has the required bound.
 #[tactic(auto, using(crate::proofs::Forgetting::said_of_rounds))]
 pub fn what_is_said_of_rounds_holds()
     ensures { WhatIsSaidOfRoundsHolds }

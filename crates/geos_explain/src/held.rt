@@ -14,12 +14,12 @@ use crate::uses::unlocking;
 use geos_image::Row;
 use geos_verify::{is_empty, is_of_file, slot_state};
 
-/// Where slots are held that must not be.
+/// Where slots hold blocks that must not.
 #[derive(Clone, Copy)]
 pub(crate) enum HeldAt {
     /// At a return, and the exit row has them empty.
     Return,
-    /// Where the VM file is written, and they hold blocks of it.
+    /// Where the VM file is written, and they hold blocks of the file.
     Write,
 }
 
@@ -48,11 +48,10 @@ fn put_since(out: &mut Saying, place: &Place, a: u8, since: Since)
     requires { IsSaidOf (place_of place.now) a since }
 {
     if since.entry {
-        out.number("; s", a as u64)
-            .text(" is locked since the in line");
+        out.say("; s# is locked since the in line", a as u64);
         put_again(out, since.from.is_some())
     } else if let Some(from) = since.from {
-        out.number("; s", a as u64).at(" is locked since", from);
+        out.say2("; s# is locked since@", a as u64, from as u64);
         put_again(out, since.again)
     }
 }
@@ -73,9 +72,11 @@ fn put_held_wish(out: &mut Saying, which: HeldAt, place: &Place, a: u8, entry: b
     match which {
         HeldAt::Return => {
             out.text(either(place.routine.public, ": ", ": say it in the out line, or "))
-                .text(unlocking(state))
-                .number(" s", a as u64)
-                .text(" before the return");
+                .say_of(
+                    "% s# before the return",
+                    unlocking(state).as_bytes(),
+                    a as u64,
+                );
         }
         HeldAt::Write => {
             out.text(either(entry, ": unlock it in the caller", ""));

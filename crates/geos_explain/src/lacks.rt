@@ -10,7 +10,7 @@ use crate::saying::Saying;
 use geos_image::{Pointer, Row, SlotState};
 use geos_verify::{is_empty, pointer_fits, slot_fits, slot_state};
 
-/// The bound that is required if it is not kept, and otherwise that of any word.
+/// The required bound if it does not hold, and otherwise that of any word.
 fn lacking_bound(known: u16, wanted: u16) -> u16
     ensures { result ≡ lacking_bound known wanted }
 {
@@ -85,7 +85,7 @@ pub(crate) fn lacking(known: &Row, wanted: &Row) -> Row
     }
 }
 
-/// Whether the slot is required empty and is held.
+/// Whether the slot is required empty and is not.
 fn is_held_unwanted(known: SlotState, wanted: SlotState) -> bool
     ensures { result ≡ is_held_unwanted known wanted }
 {
@@ -102,7 +102,7 @@ pub(crate) fn put_lacking(out: &mut Saying, known: &Row, wanted: &Row) {
     }
 }
 
-/// A law: a row lacks nothing that another requires exactly if it fits: no item, and no slot is held that is required empty.
+/// Lemma: a row lacks nothing that another requires exactly if it implies that: no item is missing, and each slot that is required empty is.
 pub fn rows_that_fit_lack_nothing()
     ensures { LacksNothingWhereItFits }
 {}

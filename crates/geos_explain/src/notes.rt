@@ -10,8 +10,7 @@ pub(crate) fn put_steps(out: &mut Saying, n: u64, coefficients: &[u32; 4]) {
     out.number(" ", n);
     for k in 0..coefficients.len() {
         if coefficients[k] != 0 {
-            out.number(" + ", coefficients[k] as u64)
-                .number(" k", k as u64);
+            out.say2(" + # k#", coefficients[k] as u64, k as u64);
         }
     }
 }
@@ -37,9 +36,7 @@ pub(crate) fn put_note(out: &mut Saying, place: &Place) {
             out.text(" ;");
         },
         None => {
-            out.name(" ; ", place.routine.name_text())
-                .number(" ", place.pc as u64)
-                .text(":");
+            out.say_of(" ; % #:", place.routine.name_text(), place.pc as u64);
         },
     }
     let before = out.len();
@@ -57,9 +54,11 @@ pub(crate) fn put_note(out: &mut Saying, place: &Place) {
 /// The potential is above the budget.
 pub(crate) fn put_budget(out: &mut Saying, routine: &Routine, potential: &Potential) {
     let one = put_potential(out, potential);
-    out.text(either(one, " is", " are"))
-        .name(" required from the start of ", routine.name_text())
-        .number(", and the budget is ", routine.budget as u64);
+    out.text(either(one, " is", " are")).say_of(
+        " required from the start of %, and the budget is #",
+        routine.name_text(),
+        routine.budget as u64,
+    );
 }
 
 /// The least budget that is enough, if one is.

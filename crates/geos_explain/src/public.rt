@@ -9,7 +9,7 @@ use crate::saying::Saying;
 use geos_image::{Routine, Row, SlotState};
 use geos_verify::is_empty;
 
-/// The slot if it is held and not borrowed, and otherwise an empty one.
+/// The slot if it holds a block that is not borrowed, and otherwise an empty one.
 fn own_only(state: SlotState) -> SlotState
     ensures { result ≡ own_only state }
 {
@@ -20,7 +20,7 @@ fn own_only(state: SlotState) -> SlotState
     }
 }
 
-/// The slots of an entry row that are held and not borrowed.
+/// The slots of an entry row that hold blocks that are not borrowed.
 fn own_slots(entry: &Row) -> Row
     ensures { result ≡ own_slots entry.now }
 {
@@ -58,7 +58,7 @@ fn marked_slots(entry: &Row) -> Row
     marked
 }
 
-/// Whether slots a and b are held, and known to hold different blocks.
+/// Whether slots a and b are known to hold different blocks.
 fn differ_held(known: bool, a: SlotState, b: SlotState) -> bool
     ensures { result ≡ known && not (is_empty a) && not (is_empty b) }
 {
@@ -113,7 +113,7 @@ fn missing_slots(row: &Row, exit: &Row) -> Row
     missing
 }
 
-/// The slot if it is held in the second row and not borrowed in both, and otherwise an empty one.
+/// The slot if it holds a block in the second row and is not borrowed in both, and otherwise an empty one.
 fn kept_only(entry: SlotState, exit: SlotState) -> SlotState
     ensures { result ≡ kept_only entry exit }
 {
@@ -124,7 +124,7 @@ fn kept_only(entry: SlotState, exit: SlotState) -> SlotState
     }
 }
 
-/// The slots that the exit row has held, other than those that both rows have borrowed.
+/// The slots that hold blocks in the exit row, other than those that are borrowed in both rows.
 fn kept_slots(entry: &Row, exit: &Row) -> Row
     ensures { result ≡ kept_slots entry.now exit.now }
 {
@@ -183,7 +183,7 @@ pub(crate) fn put_public(out: &mut Saying, routine: &Routine) {
     )
 }
 
-/// A law: there is nothing to say against the rows of a public routine exactly if a caller from outside may enter and leave by them.
+/// Lemma: no fault is reported of the rows of a public routine exactly if a caller from outside may enter and leave by them.
 pub fn rows_without_faults_may_be_public()
     ensures { NoFaultsWhereItMayEnterAndLeave }
 {}

@@ -1,4 +1,4 @@
-//! Which refusals are told at a place.
+//! Which refusals are reported at a place.
 
 ghost use Rattle.std.specs.Prelude.{◌≡◌, ◌<◌, length};
 ghost use Rattle.geos_explain.specs.Told.{is_of_budget, told_rule, is_told, rule_at, most_told, IsFirstUntold};
@@ -22,7 +22,7 @@ fn is_of_budget(rule: Rule) -> bool
     }
 }
 
-/// The rule that is told at the place that it refuses: not that on the budget, which is told of its routine.
+/// The rule that is reported at the place that it refuses: not that on the budget, which is reported of the routine.
 fn told_rule(rule: Option<Rule>) -> Option<Rule>
     ensures { result ≡ told_rule rule }
 {
@@ -39,7 +39,7 @@ fn is_told(rule: &Option<Rule>) -> bool
     told_rule(*rule).is_some()
 }
 
-/// The rule that is told at a pc.
+/// The rule that is reported at a pc.
 pub(crate) fn rule_at(refused: &[Option<Rule>], pc: u16) -> Option<Rule>
     ensures { result ≡ rule_at refused.now pc }
 {
@@ -49,7 +49,7 @@ pub(crate) fn rule_at(refused: &[Option<Rule>], pc: u16) -> Option<Rule>
     }
 }
 
-/// At how many pcs a rule is told.
+/// The number of pcs at which a rule is reported.
 fn count_all(refused: &[Option<Rule>]) -> usize {
     let mut count: usize = 0;
     for rule in refused {
@@ -60,15 +60,15 @@ fn count_all(refused: &[Option<Rule>]) -> usize {
     count
 }
 
-/// How many refusals are told of an image of so many instructions, so that it takes no longer than the longest image may:
-/// what is said of one may take time in proportion to the square of the number.
+/// The most refusals that are reported of an image of so many instructions, such that any image takes at most the time of the longest one:
+/// the report of one may take time in proportion to the square of that number.
 pub(crate) fn most_told(len: u16) -> usize
     ensures { result ≡ most_told len }
 {
     32_768 / (usize::from(len) + 1)
 }
 
-/// The pc at which a rule would be told after that at so many others; if there is none, how many pcs there are.
+/// The pc at which a rule would be reported after `most` others; if there is none, the number of pcs.
 pub(crate) fn first_untold(refused: &[Option<Rule>], most: usize) -> usize
     ensures { IsFirstUntold refused.now most result }
 {
@@ -84,7 +84,7 @@ pub(crate) fn first_untold(refused: &[Option<Rule>], most: usize) -> usize
     refused.len()
 }
 
-/// What is told if a rule refuses the place: what is wrong, or that others are not told.
+/// The report if a rule refuses the place: what is wrong, or how many others are not reported.
 pub(crate) fn put_refusal(out: &mut Saying, explained: &Explained, place: &Place) {
     let Some(rule) = rule_at(explained.refused, place.pc) else {
         return;
@@ -118,8 +118,8 @@ pub(crate) fn put_over_budget(out: &mut Saying, within: &ExplainedRoutine, pc: u
     }
 }
 
-/// A law: a rule is told at a place exactly if it is the lowest that refuses it, but for the rule on the budget, and for that on
-/// empty slots if it is told before.
+/// Lemma: a rule is reported at a place exactly if it is the lowest that refuses it, except for the rule on the budget, and for that on
+/// empty slots if it is reported before.
 pub fn told_where_refused()
     ensures { ToldWhereRefused }
 {}

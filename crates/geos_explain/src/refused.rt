@@ -116,7 +116,7 @@ struct Collected<'a> {
 }
 
 impl Collected<'_> {
-    /// Takes the next refusal, of which no more is said if there are enough.
+    /// Takes the next refusal, which is only counted if the limit is reached.
     fn take(&mut self, place: &Place, rule: Rule) {
         if self.refusals.list.len() >= self.most {
             self.refusals.more = self.refusals.more.saturating_add(1);

@@ -1,4 +1,4 @@
-//! Which refusals are told once: that a pointer leads into an empty slot, where that comes about, and not at each later instruction.
+//! Which refusals are reported once: that a pointer leads into an empty slot is reported where it begins, and not at each later instruction.
 
 ghost use Rattle.std.specs.Prelude.{◌≡◌, ◌<◌, ◌↔◌, true, IfOk, length, not};
 ghost use Rattle.geos_explain.specs.Repeated.{brings, names_empty_slot, ComesFromTold, IsRepeated, IsToldOnce, TellsOnce};
@@ -12,7 +12,7 @@ use geos_image::Row;
 use geos_verify::{Rule, fits};
 use std::alloc::{AllocError, Global};
 
-/// Whether the rule on empty slots is the one that is told at a pc.
+/// Whether the rule on empty slots is the one that is reported at a pc.
 fn names_empty_slot(refused: &[Option<Rule>], pc: u16) -> bool
     ensures { result ≡ names_empty_slot refused.now pc }
 {
@@ -64,7 +64,7 @@ impl Counting for Ahead {
     }
 }
 
-/// Whether an edge leads ahead to a pc, where the row is known, and each edge there comes from where the rule is told of its pointers.
+/// Whether a forward edge leads to a pc whose row is known, and each edge to it comes from where the rule is reported of its pointers.
 fn comes_from_told(image: &Filled, refused: &[Option<Rule>], row: &Row, pc: u16) -> bool
     requires { pc < length image.now.points }
     ensures { (result ≡ true) ↔ ComesFromTold image.now refused.now row.now pc }
@@ -79,7 +79,7 @@ fn comes_from_told(image: &Filled, refused: &[Option<Rule>], row: &Row, pc: u16)
     other.is_none() && ahead.is_some()
 }
 
-/// Whether the rule on empty slots refuses the instruction at a pc only for pointers of which that is told before.
+/// Whether the rule on empty slots refuses the instruction at a pc only for pointers of which that is reported before.
 fn is_repeated(image: &Filled, refused: &[Option<Rule>], pc: u16) -> bool
     requires { pc < length image.now.points }
     ensures { (result ≡ true) ↔ IsRepeated image.now refused.now pc }
@@ -92,7 +92,7 @@ fn is_repeated(image: &Filled, refused: &[Option<Rule>], pc: u16) -> bool
     }
 }
 
-/// The rule that is told at a pc: the lowest that refuses there, but for such a one.
+/// The rule that is reported at a pc: the lowest that refuses there, unless it repeats an earlier report.
 fn told_at(image: &Filled, refused: &[Option<Rule>], pc: u16) -> Option<Rule>
     requires { pc < length image.now.points }
     ensures { IsToldOnce image.now refused.now pc result }
@@ -121,7 +121,7 @@ pub(crate) fn told_once(
     Ok(told)
 }
 
-/// A law: each refusal that is not told again is told before, of the same pointers.
+/// Lemma: each refusal that is not reported again is reported before, of the same pointers.
 pub fn repeated_is_told_before()
     ensures { RepeatedIsToldBefore }
 {}

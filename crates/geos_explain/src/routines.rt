@@ -69,7 +69,7 @@ pub(crate) fn is_inside(place: &Place, pc: u16) -> bool
     )
 }
 
-/// The pc that was found before, or otherwise this one if something is so.
+/// The pc that was found before, or otherwise this one if `here`.
 pub(crate) fn first_or(first: Option<u16>, pc: u16, here: bool) -> Option<u16>
     ensures { result ≡ first_or first pc here }
 {

@@ -69,6 +69,63 @@ impl<'a> Saying<'a> {
         self
     }
 
+    /// The part of a sentence for a mark: `#` is for the number in decimal digits, `@` for the line of the instruction at this pc, and `%` for
+    /// the name. Any other byte is a part itself.
+    fn put_part(&mut self, mark: u8, name: &[u8], number: u64) {
+        match mark {
+            b'#' => {
+                self.number("", number);
+            }
+            b'@' => self.put_pc((number % 65_536) as u16, " "),
+            b'%' => {
+                self.name("", name);
+            }
+            byte => {
+                self.name("", &[byte]);
+            }
+        }
+    }
+
+    /// Writes words, and the name, numbers and places for which marks are in them, as `put_part` has them. Each `#` and each `@` takes the next
+    /// number.
+    fn fill(&mut self, words: &str, name: &[u8], numbers: [u64; 3]) {
+        let mut next: usize = 0;
+        for mark in words.as_bytes() {
+            let number = match numbers.get(next) {
+                Some(number) => *number,
+                None => 0,
+            };
+            self.put_part(*mark, name, number);
+            if *mark == b'#' || *mark == b'@' {
+                next = next.saturating_add(1);
+            }
+        }
+    }
+
+    /// Writes words with a mark for a number or a place: see `fill`.
+    pub fn say(&mut self, words: &str, first: u64) -> &mut Saying<'a> {
+        self.fill(words, b"", [first, 0, 0]);
+        self
+    }
+
+    /// The same with two marks.
+    pub fn say2(&mut self, words: &str, first: u64, second: u64) -> &mut Saying<'a> {
+        self.fill(words, b"", [first, second, 0]);
+        self
+    }
+
+    /// The same with three marks.
+    pub fn say3(&mut self, words: &str, first: u64, second: u64, third: u64) -> &mut Saying<'a> {
+        self.fill(words, b"", [first, second, third]);
+        self
+    }
+
+    /// The same with marks for a name, and one for a number or a place.
+    pub fn say_of(&mut self, words: &str, name: &[u8], number: u64) -> &mut Saying<'a> {
+        self.fill(words, name, [number, 0, 0]);
+        self
+    }
+
     /// Writes the line of an instruction, or without a text its pc after the words.
     fn put_pc(&mut self, pc: u16, words: &str) {
         let done = match self.lines.get(usize::from(pc)) {

@@ -1,4 +1,4 @@
-//! Since where a slot is held at a place.
+//! The instructions since which a slot holds a block at a place.
 
 ghost use Rattle.std.specs.Prelude.{◌≡◌, ◌<◌, Some, slice_get};
 ghost use Rattle.geos_flow.specs.Marks.{Marking};
@@ -14,10 +14,10 @@ use geos_flow::{Counting, Edge, Heading, Marks, end_of, is_marked};
 use geos_image::Row;
 use geos_verify::{Place as KnownPlace, has_edge, is_empty, slot_state};
 
-/// Since where a slot is held at a place, by the ways there on which it is held all along.
+/// The instructions since which a slot holds a block at a place, by the paths to it on which the slot holds a block all along.
 #[derive(Clone, Copy)]
 pub(crate) struct Since {
-    /// One leads from the routine's beginning, whose entry row has it held.
+    /// A path leads from the routine's beginning, in whose entry row the slot holds a block.
     pub entry: bool,
     /// One leads from the instruction at this pc; of several it is the last before the place, and otherwise the first.
     pub from: Option<u16>,
@@ -25,14 +25,14 @@ pub(crate) struct Since {
     pub again: bool,
 }
 
-/// Whether the slot is held in the row.
+/// Whether the slot holds a block in the row.
 fn holds(row: &Row, a: u8) -> bool
     ensures { result ≡ holds row.now a }
 {
     !is_empty(slot_state(row, a))
 }
 
-/// Whether control comes along the edge of the instruction as it comes to the place, and the slot is held after it.
+/// Whether control follows the edge of the instruction on a path to the place, and the slot holds a block after it.
 fn keeps_along(place: &Place, a: u8, edge: Edge, point: &KnownPlace) -> bool
     requires { slice_get (places place.now.image.now) edge.from ≡ Some point.now }
     ensures { result ≡ keeps_along (place_of place.now) a edge point.now }
@@ -42,7 +42,7 @@ fn keeps_along(place: &Place, a: u8, edge: Edge, point: &KnownPlace) -> bool
         && holds(&place.image.behind(edge.from, &point.row, edge.branch), a)
 }
 
-/// The edges of the place's routine along which a slot stays held, as control comes to the place.
+/// The edges of the place's routine after which a slot holds a block, on paths to the place.
 #[derive(Clone, Copy)]
 struct Holding<'a> {
     place: &'a Place<'a>,
@@ -65,7 +65,7 @@ impl<'a> Counting for Holding<'a> {
     }
 }
 
-/// The pcs from which a way leads to the place on which the slot is held all along.
+/// The pcs from which a path leads to the place on which the slot holds a block all along.
 fn held_from(place: &Place, a: u8) -> Marks
     ensures { Marking result (is_held_from (place_of place.now) a) }
 {
@@ -140,7 +140,7 @@ fn also(pc: u16, since: Since, from: u16, here: bool) -> Since
     }
 }
 
-/// Whether the caller has the slot held, and a way leads so from the routine's beginning.
+/// Whether the slot holds a block at the entry, and such a path leads from the routine's beginning.
 fn since_entry(place: &Place, a: u8, marks: &Marks) -> bool
     requires { Marking marks.now (is_held_from (place_of place.now) a) }
     ensures { result ≡ since_entry (place_of place.now) a }
@@ -149,7 +149,7 @@ fn since_entry(place: &Place, a: u8, marks: &Marks) -> bool
     holds(&place.routine.entry, a) && is_held_from(place, a, marks, start)
 }
 
-/// Since where the slot is held at the place.
+/// The instructions since which the slot holds a block at the place.
 #[tactic(auto, unfolding(crate::specs::Since::since_below))]
 pub(crate) fn held_since(place: &Place, a: u8) -> Since
     ensures { result ≡ held_since (place_of place.now) a }
@@ -168,10 +168,9 @@ pub(crate) fn held_since(place: &Place, a: u8) -> Since
     since
 }
 
-/// A law: if an instruction is named since which a slot is held, it is empty before it and held after it, and from there a
-/// way leads to the place on which it is held all along; if another one is said to be, there is another such; and if the
-/// `in` line is named, the entry row has the slot held, and such a way leads there from the routine's beginning. If the `in`
-/// line is not named, or no other place is said to be, it is not so.
+/// Lemma: if an instruction is named since which a slot holds a block, the slot is empty before it, and after it a path leads to the place
+/// on which the slot holds a block all along. If another one is reported, there is another such instruction. If the `in` line is named, the
+/// slot holds a block in the entry row, and such a path leads from the routine's beginning. The converse holds too.
 #[tactic(auto, using(crate::proofs::Holding::said_of_slots))]
 pub fn what_is_said_of_a_held_slot_holds()
     ensures { WhatIsSaidOfSlotsHolds }

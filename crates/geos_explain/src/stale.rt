@@ -32,7 +32,7 @@ fn refused_on(image: &Filled, way: Way) -> Option<u16>
     }
 }
 
-/// Words, where a way comes from, and whether by a refusal.
+/// Words, the source of a path, and whether it begins with a refusal.
 fn put_way(out: &mut Saying, place: &Place, words: &str, way: Way) {
     out.text(words);
     match way {
@@ -63,16 +63,22 @@ fn put_use_loss(out: &mut Saying, slot: SlotUse, p: u8) {
         SlotUse::MovesGroup => " moves items, and its item may be one: fetch p",
         _ => " leaves it stale: fetch p",
     };
-    out.text(words).number("", p as u64).text(" again");
+    out.text(words).say("# again", p as u64);
 }
 
 /// It moved chunks of slot a, and the pointer leads into slot b.
 fn put_move_loss(out: &mut Saying, p: u8, a: u8, b: u8) {
-    out.number(" may have moved its chunk, since s", a as u64)
-        .number(" and s", b as u64)
-        .number(" may have one block: fetch p", p as u64)
-        .number(" again, or tell the slots apart first by SNE s", a as u64)
-        .number(" s", b as u64);
+    out.say3(
+        " may have moved its chunk, since s# and s# may have one block: fetch p# again",
+        a as u64,
+        b as u64,
+        p as u64,
+    )
+    .say2(
+        ", or tell the slots apart first by SNE s# s#",
+        a as u64,
+        b as u64,
+    );
 }
 
 /// The instruction was to set the pointer and was refused, and went to a pc; what helps. If other instructions are on the path from there, it
@@ -102,8 +108,9 @@ fn put_refusal_cure(out: &mut Saying, place: &Place, to: usize, meeting: Option<
 fn put_own_refusal(out: &mut Saying, place: &Place, p: u8, to: usize, meeting: Option<Meeting>) {
     out.text(" does not set it if it is refused: ");
     if let Opcode::Ret = place.i.opcode {
-        out.number("leave p", p as u64).text(
-            " out of the out line, and fetch it after the CALL of this routine",
+        out.say(
+            "leave p# out of the out line, and fetch it after the CALL of this routine",
+            p as u64,
         );
     } else {
         put_refusal_cure(out, place, to, meeting)
@@ -112,11 +119,11 @@ fn put_own_refusal(out: &mut Saying, place: &Place, p: u8, to: usize, meeting: O
 
 /// A CALL lost the pointer, which leads so before it.
 fn put_call_loss(out: &mut Saying, place: &Place, item: Item, r: u16, row: &Row) {
-    out.name(
-        " leaves only what the out line of ",
+    out.say_of(
+        " leaves only what the out line of % says",
         name_at(place.image, r),
-    )
-    .text(" says");
+        0,
+    );
     put_kept_wish(out, place, item, r, row)
 }
 
@@ -141,7 +148,7 @@ fn put_lost_by(out: &mut Saying, place: &Place, p: u8, loss: Loss, meeting: Opti
     let edge = loss.edge;
     if let Some(point) = place.image.place(edge.from) {
         let i = &point.instr;
-        out.text("; ").text(i.opcode.word()).at(" at", edge.from);
+        out.say_of("; % at@", i.opcode.word().as_bytes(), edge.from as u64);
         if edge.branch && sets(i, i.opcode.uses().pointer, p) {
             put_own_refusal(out, place, p, end_of(edge, i), meeting)
         } else {
@@ -156,18 +163,19 @@ fn put_other_label(out: &mut Saying, place: &Place, meeting: Option<Meeting>) {
     if let Some(m) = meeting
         && let Some(from) = refused_on(place.image, m.lost)
     {
-        out.at(", or give", from).text(" another label");
+        out.say(", or give@ another label", from as u64);
     }
 }
 
 /// The pointer is not known from the routine's beginning on; a caller that is a routine may bring it.
 fn put_unset(out: &mut Saying, place: &Place, p: u8, meeting: Option<Meeting>) {
-    out.number("; p", p as u64).text(
-        " is not set on the path from the start of the routine: fetch it first",
+    out.say(
+        "; p# is not set on the path from the start of the routine: fetch it first",
+        p as u64,
     );
     put_other_label(out, place, meeting);
     if !place.routine.public {
-        out.number(", or say p", p as u64).text(" in the in line");
+        out.say(", or say p# in the in line", p as u64);
     }
 }
 
@@ -176,27 +184,33 @@ fn put_unreached(out: &mut Saying, place: &Place, to: u16) {
     if to == place.pc {
         out.text("; no path leads here: take it out");
     } else {
-        out.at("; no path leads to", to).text(": take it out");
+        out.say("; no path leads to@: take it out", to as u64);
     }
 }
 
 /// Each path to a pc brings the pointer, which is not known there.
 fn put_merged(out: &mut Saying, p: u8, to: u16) {
-    out.number("; p", p as u64)
-        .at(" is known on each path to", to)
-        .text(", and not there, as if it leads into two slots: fetch it again");
+    out.say2(
+        "; p# is known on each path to@, and not there, as if it leads into two slots: fetch it again",
+        p as u64,
+        to as u64,
+    );
 }
 
 /// A way brings the pointer into an empty slot.
 fn put_nowhere_by(out: &mut Saying, place: &Place, p: u8, way: Way, slot: u8) {
     put_way(out, place, "; from", way);
-    out.number(" p", p as u64)
-        .number(" leads into s", slot as u64)
-        .text(", which is empty there: ");
+    out.say2(
+        " p# leads into s#, which is empty there: ",
+        p as u64,
+        slot as u64,
+    );
     match way {
         Way::Entry => {
-            out.number("say in the in line what s", slot as u64)
-                .text(" has, or fetch the pointer first");
+            out.say(
+                "say in the in line what s# has, or fetch the pointer first",
+                slot as u64,
+            );
         }
         Way::Along(_) => {
             out.text("fetch it again");
@@ -231,7 +245,7 @@ fn put_meeting(out: &mut Saying, place: &Place, p: u8, m: Meeting) {
     put_way(out, place, ", and not from", m.lost)
 }
 
-/// Where ways meet of which one brings the pointer and another does not, and by what the pointer was lost, or else why it is not known.
+/// Where paths join of which one brings the pointer and another does not, and what lost the pointer, or why it is not known.
 fn put_finding(out: &mut Saying, place: &Place, p: u8, found: Finding)
     requires { IsFinding (place_of place.now) p found }
 {

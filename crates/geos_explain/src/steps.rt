@@ -1,4 +1,4 @@
-//! What is said if an edge is not paid for.
+//! The sentences on an edge that is not paid for.
 
 use crate::notes::put_steps;
 use crate::place::Place;
@@ -6,7 +6,7 @@ use crate::saying::{Saying, either};
 use geos_image::{Opcode, Potential};
 use geos_verify::{Asked, asked_along, asked_branching, branches, falls_through};
 
-/// What is required and not left: steps, or else what counters pay, with what each must pay, and pays.
+/// What is required and not left: steps, or the payments of counters, with what each must pay, and pays.
 fn put_asked(out: &mut Saying, asked: &Asked, p: &Potential) {
     let left = asked.left(p);
     if asked.steps <= left {
@@ -19,11 +19,10 @@ fn put_asked(out: &mut Saying, asked: &Asked, p: &Potential) {
     out.number(" ", asked.steps)
         .text(either(asked.steps == 1, " step is", " steps are"))
         .number(" required from here, and ", left)
-        .text(either(left == 1, " is", " are"))
-        .text(" left");
+        .text(either(left == 1, " is left", " are left"));
 }
 
-/// What is said if neither edge is unpaid: a return takes a step; after a call no counter may pay that the routine touches.
+/// The sentence if both edges are paid for: a return takes a step; after a call no counter may pay that the routine touches.
 fn put_last(out: &mut Saying, place: &Place) {
     match place.i.opcode {
         Opcode::Ret => {
@@ -31,8 +30,11 @@ fn put_last(out: &mut Saying, place: &Place) {
         },
         Opcode::Call => if let Some(next) = place.image.point(place.pc + 1) {
             let callee = place.image.routine(place.i.imm);
-            out.name(" ", callee.name_text())
-                .text(" touches a counter that pays after the call:");
+            out.say_of(
+                " % touches a counter that pays after the call:",
+                callee.name_text(),
+                0,
+            );
             for k in 0..4 {
                 if next.potential.coefficients[k] != 0 {
                     out.number(" k", k as u64);

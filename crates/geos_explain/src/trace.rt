@@ -17,7 +17,7 @@ use crate::ways::{Followed, Way, bringing, empty_on, is_stale, loses, losing};
 use geos_flow::{Edge, Marks, Pending, end_of, is_marked, mark, no_marks};
 use geos_verify::{Place as KnownPlace, has_edge, pointer_at};
 
-/// A pointer that is followed back from a place, with what is known of it on some way to each pc.
+/// A pointer that is followed back from a place, with what is known of it on some path to each pc.
 #[derive(Clone, Copy)]
 pub(crate) struct Tracing<'a> {
     pub place: &'a Place<'a>,
@@ -38,13 +38,13 @@ pub(crate) struct FirstWays {
 pub(crate) struct Trace {
     /// From where it can be lacking.
     pub passed: Marks,
-    /// Whether what is looked for was found: an instruction that lost it, or a meeting if there was none before.
+    /// Whether the search has succeeded: it found an instruction that lost the pointer, or a first join.
     pub found: bool,
-    /// The first place that was passed where ways meet, the first reason on the way that does not bring it, and by what it was lost.
+    /// The first visited join of paths, the first reason on the path that does not bring the pointer, and what lost it.
     pub finding: Finding,
 }
 
-/// The way brings the pointer into an empty slot, or else the end is as is said.
+/// The path brings the pointer into an empty slot, or ends as given.
 fn nowhere_or(tracing: &Tracing, way: Way, to: u16, end: End) -> End
     requires lacks { LacksFrom (place_of tracing.now.place.now) tracing.now.p to }
     requires leads { (known : Bool) × IsWay (place_of tracing.now.place.now) tracing.now.p known way to }
@@ -57,7 +57,7 @@ fn nowhere_or(tracing: &Tracing, way: Way, to: u16, end: End) -> End
     }
 }
 
-/// No instruction that goes on to a pc can have lost the pointer: no way to it lacks it, if each brings it or there is none, or
+/// No instruction that continues to a pc can have lost the pointer: no way to it lacks it, if each brings it or there is none, or
 /// the caller does not bring it, or control does not come from where it is lacking.
 fn end_at(tracing: &Tracing, ways: FirstWays) -> Option<End>
     requires { AreWays (place_of tracing.now.place.now) tracing.now.p ways }
@@ -76,7 +76,7 @@ fn end_at(tracing: &Tracing, ways: FirstWays) -> Option<End>
     }
 }
 
-/// Where the ways meet, if one of them brings the pointer and the other does not.
+/// The join of the paths, if one of them brings the pointer and the other does not.
 fn meeting_at(tracing: &Tracing, ways: FirstWays) -> Option<Meeting>
     requires { AreWays (place_of tracing.now.place.now) tracing.now.p ways }
     ensures meets { IfSome result (λ m. IsMeeting (place_of tracing.now.place.now) tracing.now.p m) }
@@ -95,7 +95,7 @@ fn meeting_at(tracing: &Tracing, ways: FirstWays) -> Option<Meeting>
     }
 }
 
-/// One more place is passed, to which these ways lead first. Where the first ways meet, nothing counts of what else was passed.
+/// Visits a place, to which these paths lead first. At the first join, earlier visits no longer count.
 fn note(trace: &mut Trace, tracing: &Tracing, ways: FirstWays)
     requires ways { AreWays (place_of tracing.now.place.now) tracing.now.p ways }
     requires sound { IsSound (place_of tracing.now.place.now) tracing.now.p trace.old }
@@ -161,7 +161,7 @@ fn pass(trace: &mut Trace, tracing: &Tracing, waits: &mut Pending, at: u16)
     note(trace, tracing, ways);
 }
 
-/// The pointer, and what is known of it on some way to the pc.
+/// The pointer, and what is known of it on some path to the pc.
 fn hint_at(tracing: &Tracing, from: u16) -> Followed
     requires { CanFollow tracing.now }
     ensures pointer { result.p ≡ tracing.now.p }
@@ -212,7 +212,7 @@ fn step_by(
     }
 }
 
-/// The same along any edge of the instruction, if it leads to a place that was passed, unless what is looked for was found already.
+/// The same along any edge of the instruction, if it leads to a visited place, unless the search has succeeded.
 fn step_along(
     trace: &mut Trace,
     tracing: &Tracing,
@@ -302,8 +302,8 @@ fn step_aside(trace: &mut Trace, tracing: &Tracing, waits: &mut Pending, meeting
     }
 }
 
-/// What is found of the pointer: it is followed back from the place until it was lost or ways meet, and from there along the way
-/// that does not bring it until it was lost.
+/// What is found of the pointer: it is followed back from the place to an instruction that lost it or to a join, and from there along the
+/// path that does not bring it to an instruction that lost it.
 pub(crate) fn traced(place: &Place, p: u8) -> Finding
     ensures { IsFinding (place_of place.now) p result }
 {

@@ -79,11 +79,11 @@ pub(crate) fn mark_word(state: SlotState) -> &'static str {
 pub(crate) fn put_unmarked(out: &mut Saying, i: &Instr, row: &Row) {
     let a = changed_slot(i, row);
     let state = slot_state(row, a);
-    out.slot("", a, state)
-        .text(" is changed here, and may not be marked: ")
-        .text(mark_word(state))
-        .number(" s", a as u64)
-        .text(" before this marks it");
+    out.slot("", a, state).say_of(
+        " is changed here, and may not be marked: % s# before this marks it",
+        mark_word(state).as_bytes(),
+        a as u64,
+    );
 }
 
 /// What empties a slot.
@@ -101,10 +101,11 @@ pub(crate) fn put_held(out: &mut Saying, i: &Instr, row: &Row) {
     let state = slot_state(row, i.a);
     out.slot("", i.a, state);
     if state.is_own() {
-        out.text(" is locked here, and an empty slot is required: use another slot, or ")
-            .text(unlocking(state))
-            .number(" s", i.a as u64)
-            .text(" first");
+        out.say_of(
+            " is locked here, and an empty slot is required: use another slot, or % s# first",
+            unlocking(state).as_bytes(),
+            i.a as u64,
+        );
     } else {
         out.text(" is borrowed from the caller, and an empty slot is required: use another slot");
     }
@@ -248,18 +249,18 @@ pub(crate) fn past_at(i: &Instr, row: &Row) -> Past
 fn put_short(out: &mut Saying, p: u8, wanted: u32, least: u16) {
     out.number(" ", wanted as u64)
         .text(either(wanted == 1, " byte is", " bytes are"))
-        .number(" required at p", p as u64)
-        .number(", and ", least as u64)
-        .text(either(least == 1, " is", " are"))
-        .text(" known");
+        .say2(" required at p#, and #", p as u64, least as u64)
+        .text(either(least == 1, " is known", " are known"));
 }
 
 /// What index is low enough for so many bytes, if one is.
 fn put_low_index(out: &mut Saying, i: &Instr, wide: u16, least: u16) {
     if wide <= least {
-        out.number(" w", i.c as u64)
-            .number("<=", (least - wide) as u64)
-            .text(" is required, since ");
+        out.say2(
+            " w#<=# is required, since ",
+            i.c as u64,
+            (least - wide) as u64,
+        );
     } else {
         out.text(" no index is low enough, since ");
     }
@@ -270,9 +271,7 @@ fn put_index(out: &mut Saying, w: u8, most: u16) {
     if most == u16::MAX {
         out.number(", and nothing is known of w", w as u64);
     } else {
-        out.number(", and w", w as u64)
-            .number("<=", most as u64)
-            .text(" is known");
+        out.say2(", and w#<=# is known", w as u64, most as u64);
     }
 }
 
@@ -304,7 +303,7 @@ fn leads_item(row: &Row, p: u8, wanted: u32) -> Item {
     Item::Leads(p, Pointer { slot, least })
 }
 
-/// What is to be known there: of the index, if some bound of it serves, or else of the bytes of the pointer.
+/// The required item: a bound of the index, if some bound is enough, and otherwise the bytes of the pointer.
 pub(crate) fn past_item(i: &Instr, row: &Row, past: Past) -> Item {
     let least = least_at(row, i.b);
     match past {
@@ -341,30 +340,29 @@ pub(crate) fn put_ask_wish(out: &mut Saying, place: &Place, p: u8, wanted: u32) 
 
 /// So many bytes are to be required in the `in` line.
 fn put_say_wish(out: &mut Saying, p: u8, slot: u8, wanted: u32) {
-    out.number("; say p", p as u64)
-        .number("=s", slot as u64)
-        .number(":", wanted as u64)
-        .text(" in the in line");
+    out.say3(
+        "; say p#=s#:# in the in line",
+        p as u64,
+        slot as u64,
+        wanted as u64,
+    );
 }
 
 /// So many bytes are to be required where the pointer is set.
 fn put_set_wish(out: &mut Saying, p: u8, wanted: u32) {
     out.number("; ask for ", wanted as u64)
         .text(either(wanted == 1, " byte", " bytes"))
-        .number(" where p", p as u64)
-        .text(" is set");
+        .say(" where p# is set", p as u64);
 }
 
 /// A word is to be bounded before the instruction.
 pub(crate) fn put_bounding(out: &mut Saying, w: u8, most: u16) {
-    out.number("; CHK w", w as u64)
-        .number(" ", most as u64)
-        .text(" L before this bounds it");
+    out.say2("; CHK w# # L before this bounds it", w as u64, most as u64);
 }
 
 /// Another instruction tests the index.
 fn put_tested(out: &mut Saying, tested: Opcode) {
-    out.text(", or ").text(tested.word()).text(" tests it");
+    out.say_of(", or % tests it", tested.word().as_bytes(), 0);
 }
 
 /// What helps there, if a CALL `forgets` what is required, too.

@@ -26,7 +26,7 @@ pub(crate) enum Way {
     Along(Edge),
 }
 
-/// Which ways are looked for.
+/// Which paths are searched.
 #[derive(Clone, Copy)]
 pub(crate) struct Sought {
     /// The pointer.
@@ -41,7 +41,7 @@ pub(crate) struct Sought {
 #[derive(Clone, Copy)]
 pub(crate) struct Followed {
     pub p: u8,
-    /// What is known of it on some way there.
+    /// What is known of it on some path to the place.
     pub hint: Option<Pointer>,
 }
 
@@ -52,7 +52,7 @@ pub(crate) fn is_stale(pointer: Option<Pointer>) -> bool
     pointer.is_none()
 }
 
-/// Whether the pointer is known, or is not, as is asked.
+/// Whether the pointer is known, or unknown, as `known` says.
 pub(crate) fn is_as(known: bool, pointer: Option<Pointer>) -> bool
     ensures { result ≡ is_as known pointer }
 {
@@ -112,7 +112,7 @@ pub(crate) fn empty_on(place: &Place, p: u8, way: Way) -> Option<u8>
     }
 }
 
-/// Whether control comes along the edge of the instruction as is asked, and after it the pointer is known as is asked.
+/// Whether control follows the edge of the instruction, and the pointer is known after it, as the search requires.
 pub(crate) fn is_as_sought(place: &Place, sought: Sought, edge: Edge, point: &KnownPlace) -> bool
     requires { slice_get (places place.now.image.now) edge.from ≡ Some point.now }
     ensures { result ≡ is_as_sought (place_of place.now) sought edge point.now }

@@ -57,8 +57,7 @@ fn put_later(out: &mut Saying, place: &Place, callee: &Routine) {
     if calls_to(place.image, place.i.imm, place.r) {
         out.text("the two call each other, so take one of the CALLs out");
     } else {
-        out.name("move ", callee.name_text())
-            .text(" before this routine");
+        out.say_of("move % before this routine", callee.name_text(), 0);
     }
 }
 
@@ -67,8 +66,7 @@ fn put_lacking_at_call(out: &mut Saying, place: &Place, callee: &Routine) {
     let before = out.len();
     put_lacking(out, place.row, &callee.entry);
     out.put_are(before, " required by ");
-    out.name("", callee.name_text())
-        .text(", and not known here");
+    out.say_of("%, and not known here", callee.name_text(), 0);
 }
 
 /// The routine that a CALL names is not before that of the place, or its entry row requires more than the row says; and what helps.
@@ -102,7 +100,7 @@ fn put_along(out: &mut Saying, place: &Place, branch: bool, to: u16) -> bool {
         return false;
     }
     out.put_are(before, " required at");
-    out.at("", to).text(", and not known here");
+    out.say("@, and not known here", to as u64);
     true
 }
 
@@ -132,15 +130,15 @@ fn put_unmarked_here(out: &mut Saying, place: &Place) {
     put_forgotten(out, place, mark);
 }
 
-/// A slot does not have what the instruction requires, and which CALL forgets what it had, or what else helps.
+/// A slot does not have what the instruction requires, and the CALL that forgets what it had, or another cure.
 fn put_slot_here(out: &mut Saying, place: &Place) {
     let a = place.i.a;
     if put_slot(out, place.i, place.row) || put_forgotten(out, place, Item::Held(a)) {
         return;
     }
-    out.number(": lock one into s", a as u64).text(" first");
+    out.say(": lock one into s# first", a as u64);
     if !place.routine.public {
-        out.number(", or say s", a as u64).text(" in the in line");
+        out.say(", or say s# in the in line", a as u64);
     }
 }
 
