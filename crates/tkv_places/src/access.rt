@@ -9,7 +9,7 @@ use tkv_syntax::{Item, Name, Why};
 /// What is read or written through a pointer.
 #[derive(Clone, Copy)]
 struct Target {
-    /// Where it begins, in bytes.
+    /// Its offset, in bytes.
     offset: u16,
     /// 1 or 2.
     bytes: u16,

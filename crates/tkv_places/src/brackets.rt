@@ -72,7 +72,7 @@ impl Placer {
         into
     }
 
-    /// Control may leave to the end of a block, and give back the locks on its way.
+    /// Control may leave to the end of a block, and releases the locks of the blocks that it leaves.
     fn join(&mut self, level: u16) {
         let mut known = self.state;
         let count = self.brackets.len();
@@ -109,7 +109,7 @@ impl Placer {
         }
     }
 
-    /// An instruction that goes on.
+    /// Appends an instruction after which control continues.
     pub(crate) fn act(&mut self, instr: Instr, at: u32) {
         self.test_to(instr, NOWHERE, at);
     }

@@ -99,7 +99,7 @@ impl Placer {
         instr
     }
 
-    /// Tests what a call does not allow where it stands, and marks the block that it changes.
+    /// Reports what a call does not allow at this place, and marks the block that the call changes.
     fn prepare(&mut self, opcode: Opcode, count: usize, at: u32) {
         let uses = opcode.uses();
         if matches!(uses.slot, SlotUse::Commits) {

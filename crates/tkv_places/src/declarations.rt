@@ -36,7 +36,7 @@ pub(crate) struct FieldPlace {
     pub name: Name,
     /// The declaration of the structure.
     pub owner: u16,
-    /// Where it begins, in bytes.
+    /// Its offset, in bytes.
     pub offset: u16,
     /// 1 or 2.
     pub bytes: u16,
@@ -115,7 +115,7 @@ impl Declared {
         self.source.items.get(index).copied()
     }
 
-    /// The name that stands at a place.
+    /// The name at an offset of the source.
     pub(crate) fn name(&self, at: u32) -> Name {
         name_at(&self.source.text, at)
     }
@@ -159,7 +159,7 @@ impl Declared {
                     Ok(global.value)
                 }
             }
-            None => Err(Fault::new(Why::Unknown, at)),
+            None => Err(Fault::new(Why::NoConstant, at)),
         }
     }
 }

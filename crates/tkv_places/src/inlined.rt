@@ -1,4 +1,4 @@
-//! Routines that are called: their statements stand in the place of the call.
+//! Calls of routines: the statements of the routine replace the call.
 
 use crate::declarations::{Declaration, Kind};
 use crate::names::value;
@@ -52,7 +52,7 @@ impl Placer {
         });
     }
 
-    /// Names a word parameter. A name that the routine does not set is used where it stands.
+    /// Names a word parameter. A name that the routine does not set is used in its register.
     fn bind_word(&mut self, item: &Item, operand: Operand) {
         let kept = item.a == 0;
         match operand.sort {
@@ -134,7 +134,7 @@ impl Placer {
         self.base = base;
     }
 
-    /// Where the refusals of a call go: the routine may be refused if its declaration says so.
+    /// The target of the refusals of a call. The routine may be refused if its declaration allows it.
     fn fails_to(&mut self, head: &Item, item: &Item) -> u16 {
         let asks = item.b != 0;
         if head.a & 4 != 0 {
@@ -167,7 +167,7 @@ impl Placer {
         register
     }
 
-    /// A call of a routine, whose arguments are the last values: control goes on with its statements.
+    /// A call of a routine, whose arguments are the last values: its statements follow.
     pub(crate) fn routine_call(&mut self, item: &Item, name: &Name) {
         let at = item.at;
         let Some(routine) = self.routine_named(name, at) else {
@@ -213,7 +213,7 @@ impl Placer {
         }
     }
 
-    /// An inlined routine is over: its result takes the place of the call, and control goes on after that.
+    /// The end of an inlined routine: its result replaces the call, and the statements after the call follow.
     pub(crate) fn return_inlined(&mut self, at: u32) {
         let frame = self.finish(at);
         let Some(call) = self.running.pop() else {

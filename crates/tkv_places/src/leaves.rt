@@ -32,7 +32,7 @@ impl Placer {
         }
     }
 
-    /// Where a refusal with `?` goes, and `fail`.
+    /// The target of a refusal with `?`, and of `fail`.
     pub(crate) fn way_out(&mut self, at: u32) -> u16 {
         let mut level = NOWHERE;
         for frame in self.frames.iter().rev() {
@@ -76,10 +76,10 @@ impl Placer {
         self.leave(level, at);
     }
 
-    /// Control goes to the end of a turn: of the block within the loop, which is two further in than that around it.
+    /// Control goes to the end of an iteration: to the end of the block within the loop, three levels below the outer block around it.
     pub(crate) fn continue_loop(&mut self, at: u32) {
         let level = self.loop_level(at);
-        self.leave(level.saturating_add(2), at);
+        self.leave(level.saturating_add(3), at);
     }
 
     /// `fail`, with a number if one is before it.
@@ -89,7 +89,7 @@ impl Placer {
             let operand = self.operand(0, at);
             let number = self.number_of(operand);
             if number == 0 {
-                return self.refuse(Why::NoConstant, at);
+                return self.refuse(Why::ConstantRange, at);
             }
             self.act(with_number(Opcode::Ldi, WHY, 0, number), at);
             self.state = self.state.with_word(WHY);

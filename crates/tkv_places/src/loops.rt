@@ -1,4 +1,4 @@
-//! Loops. Around each stands a block, to whose end `break` leaves, and in it one to whose end `continue` does.
+//! Loops. A loop is within a block, to whose end `break` leaves, and contains a block, to whose end `continue` leaves.
 
 use crate::names::value;
 use crate::placed::{PlacedKind, with_number, with_registers};
@@ -67,11 +67,13 @@ impl Placer {
         }
     }
 
-    /// A loop, in its block and with its counter.
+    /// A loop with its counter, in two blocks: `break` leaves to the end of the outer one, and a loop without iterations to the end of the inner
+    /// one, where `else` follows.
     fn loop_frame(&mut self, construct: Construct, at: u32) -> Frame {
         let mut frame = self.frame(construct, at);
         frame.register = self.take_counter(at);
         frame.level = self.block(at);
+        self.block(at);
         frame
     }
 
@@ -91,12 +93,20 @@ impl Placer {
         }
     }
 
-    /// The word that counts, set to the value at which counting begins.
-    fn counting_word(&mut self, low: Operand, at: u32) -> u8 {
+    /// A free word for the word that counts. It is not that of `high`, which is read after the word is set.
+    fn word_beside(&mut self, high: Operand, at: u32) -> u8 {
+        match self.freed_word() {
+            Some(register) if high.is_constant() || register != high.register => register,
+            _ => self.take_word(at),
+        }
+    }
+
+    /// The word that counts, set to the value at which counting begins. The value at which it ends is read later if it is no constant.
+    fn counting_word(&mut self, low: Operand, high: Operand, at: u32) -> u8 {
         let register = if low.is_temporary() && low.register < MOST_WORDS {
             low.register
         } else {
-            let register = self.take_named(at);
+            let register = self.word_beside(high, at);
             self.move_to(low, register, at);
             register
         };
@@ -124,7 +134,7 @@ impl Placer {
         );
     }
 
-    /// Turns from one word to another; none if the first is not below the second.
+    /// Turns from one word to another. If the first is above the second, control leaves to the end of the block `level`.
     fn turns_between(&mut self, counting: &Counting, from: u8, level: u16, at: u32) {
         let register = self.word_of(counting.high);
         self.test_to(with_registers(Opcode::Blt, register, from, 0), level, at);
@@ -146,13 +156,13 @@ impl Placer {
         } else if low.is_constant() && low.value == 0 {
             self.turns_to(counting, at);
         } else {
-            let from = self.counting_word(low, at);
+            let from = self.counting_word(low, counting.high, at);
             self.turns_between(counting, from, level, at);
             return from;
         }
         self.clear();
         if speaks {
-            self.counting_word(low, at)
+            self.counting_word(low, low, at)
         } else {
             UNCOUNTED
         }
@@ -175,7 +185,8 @@ impl Placer {
             counter: frame.register,
         };
         let speaks = self.foresee(at);
-        let counted = self.count_from(&counting, frame.level, speaks, at);
+        let none = frame.level.saturating_add(1);
+        let counted = self.count_from(&counting, none, speaks, at);
         self.clear();
         if counted != UNCOUNTED {
             self.declare_as(Meaning::Fixed, at, counted);
@@ -184,7 +195,7 @@ impl Placer {
         self.begin_turns(frame, counted, step, !counting.is_known());
     }
 
-    /// The word that counts goes on by the step.
+    /// Adds the step to the loop's word.
     fn step_on(&mut self, turns: &Turns, at: u32) {
         let step = self.word_of(value(Sort::Constant, at, 0, turns.step));
         let by = with_registers(Opcode::Add, turns.counted, turns.counted, step);
@@ -213,10 +224,11 @@ impl Placer {
             self.state = self.state.meet(turns.head);
         }
         self.end(at);
+        self.end(at);
         self.counters = self.counters.saturating_sub(1);
     }
 
-    /// The loop is over, and what follows if all turns were used up.
+    /// The end of the loop, and what follows if all iterations were used.
     pub(crate) fn loop_done(&mut self, at: u32) {
         let frame = self.finish(at);
         self.restore(&frame);

@@ -49,7 +49,7 @@ impl Placer {
         }
     }
 
-    /// The pointers that a call in a turn of a loop makes stale, where `first` is the place of its first argument's name.
+    /// Makes the pointers stale that a call in a loop's body makes stale. `first` is the offset of its first argument's name.
     fn lose_by_call(&mut self, call: &Item, first: u32) {
         let at = call.at;
         let name = self.name(at);
@@ -85,11 +85,11 @@ impl Placer {
     }
 }
 
-/// The values of a statement, of which only names matter: where each stands.
+/// The values of a statement, of which only names matter: the offset of each.
 #[derive(Drop)]
 struct Seen {
     names: Vec<u32>,
-    /// Where the allocation was refused, if one was.
+    /// The offset at which an allocation failed, if one did.
     refused: Option<u32>,
 }
 
@@ -100,7 +100,7 @@ impl Seen {
         }
     }
 
-    /// Takes so many values away, and puts one that is no name in their place. Where the first of them stands.
+    /// Replaces so many values by one that is no name. Returns the offset of the first of them.
     fn join(&mut self, count: u32) -> u32 {
         let mut first = NONE;
         for _ in 0..count.min(16) {

@@ -107,7 +107,7 @@ impl Placer {
         })
     }
 
-    /// The last item from here on that needs the name; in a loop that begins from here on, the end of a turn.
+    /// The last item from here on that needs the name. If that is in a loop that begins from here on, the end of the loop's iteration.
     fn last_need(&mut self, at: u32) -> usize {
         let name = self.name(at);
         let from = self.next;

@@ -180,7 +180,7 @@ impl Placer {
         self.state = self.state.with_mark(slot);
     }
 
-    /// Where a refusal goes: of what `?` follows out, otherwise to the handler of the statement.
+    /// The target of a refusal: out of the routine if `?` follows, otherwise the handler of the statement.
     pub(crate) fn refusal_way(&mut self, asks: bool, at: u32) -> u16 {
         if asks {
             return self.way_out(at);

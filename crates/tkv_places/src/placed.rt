@@ -6,7 +6,7 @@ use geos_opcodes::Opcode;
 /// What an item of a placed program is.
 #[derive(Clone, Copy, PartialEq, Eq)]
 pub enum PlacedKind {
-    /// An instruction. If it is refused, or its test says so, control goes to the end of the block that it names.
+    /// An instruction. If it is refused, or its test fails, control goes to the end of the block that it names.
     Do,
     /// Control goes to the end of the block that it names.
     Leave,
@@ -16,7 +16,7 @@ pub enum PlacedKind {
     Loop,
     /// Turns begin: control comes to their end first, which counts.
     Count,
-    /// Statements begin, after which the instruction stands on every way out.
+    /// Begins statements. The instruction runs on every path out of them.
     Closing,
     /// The end of what began last and has not ended.
     End,

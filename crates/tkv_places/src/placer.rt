@@ -207,7 +207,7 @@ pub(crate) struct Placer {
     /// The slots into which pointers lead.
     pub leads: [u8; 4],
     pub lost: [Loss; 4],
-    /// Where the refusals of the statement go if it has a handler, and whether `?` follows what it puts out.
+    /// The target of the statement's refusals if it has a handler, and whether `?` follows what it outputs.
     pub handler: u16,
     pub asks: bool,
     /// The first symbol of the routine, and the first value of the statement.
@@ -290,7 +290,7 @@ impl Placer {
         });
     }
 
-    /// The name that stands at a place.
+    /// The name at an offset of the source.
     pub(crate) fn name(&self, at: u32) -> Name {
         self.declared.name(at)
     }

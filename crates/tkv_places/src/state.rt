@@ -65,7 +65,7 @@ pub(crate) fn pairs_of(slot: u8) -> u8 {
 }
 
 impl State {
-    /// What is known where two ways meet.
+    /// The join of two states.
     pub(crate) fn meet(self, other: State) -> State {
         if !self.alive {
             return other;

@@ -1,4 +1,4 @@
-//! Statements that name, set and put out values.
+//! Statements that name, set and output values.
 
 use crate::placed::{PlacedKind, with_registers};
 use crate::placer::{MOST_WORDS, Meaning, Operand, Placer, Symbol};
@@ -136,7 +136,7 @@ impl Placer {
         }
     }
 
-    /// Puts out the value.
+    /// Outputs the value.
     pub(crate) fn put_out(&mut self, item: &Item) {
         let at = item.at;
         let operand = self.operand(0, at);
