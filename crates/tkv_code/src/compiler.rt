@@ -31,7 +31,7 @@ struct Program {
     code: Vec<Coded>,
 }
 
-/// What holds where a routine returns: what was lent is held still.
+/// The exit row of a routine: borrowed blocks are still locked.
 fn exit_of(entry: &Row) -> Row {
     Row {
         slots: entry.slots,
@@ -82,7 +82,7 @@ impl Program {
     }
 }
 
-/// Where a public routine is declared, if the item declares one.
+/// The offset of a public routine's declaration, if the item is one.
 fn public_routine(declared: &Declared, index: usize) -> Option<u32> {
     match declared.items().get(index) {
         Some(item) => {

@@ -121,7 +121,7 @@ impl Emitter {
         }
     }
 
-    /// Adds an instruction that goes on.
+    /// Adds an instruction after which control continues.
     fn emit(&mut self, instr: Instr, at: u32) {
         self.add(instr, false, at);
     }
@@ -133,7 +133,7 @@ impl Emitter {
         self.add(aimed, true, at);
     }
 
-    /// The label stands before the next instruction.
+    /// Puts the label before the next instruction.
     fn set_here(&mut self, label: u16) {
         let pc = self.code.len().min(65_535) as u16;
         if let Some(there) = self.labels.get_mut(usize::from(label)) {
@@ -144,7 +144,7 @@ impl Emitter {
         }
     }
 
-    /// All rungs that wait stand here, where control does not come.
+    /// Puts all waiting rungs here, where control does not fall through.
     fn put_waiting(&mut self) {
         for _ in 0..self.waiting.len() {
             let Some(rung) = self.waiting.pop() else {
@@ -156,7 +156,7 @@ impl Emitter {
         }
     }
 
-    /// The label stands here, and before it the rungs that lead to it.
+    /// Puts the label here, after the rungs that lead to it.
     fn put_label(&mut self, label: u16, at: u32) {
         let awaited = self.waiting.iter().any(|rung| rung.to == label);
         if awaited {

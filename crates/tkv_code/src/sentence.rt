@@ -4,12 +4,15 @@ use geos_text::put_numbered;
 use std::alloc::AllocError;
 use tkv_syntax::{Fault, Why, name_at, place_of};
 
-/// The sentence of each fault, in the order of `Why`. For `@` the name that stands at its place is put, for `~` the name at the other place
-/// and for `^` the line of that, for `#` the number, for `$` the word.
+/// The sentence of each fault, in the order of `Why`. `@` stands for the name at the fault's offset, `~` for the name at its other offset,
+/// `^` for the line of that, `#` for the number, and `$` for the word.
 static SENTENCES: [(Why, &str); 50] = [
     (Why::Memory, "memory is refused"),
     (Why::TooLong, "a source has at most 1,048,576 bytes"),
-    (Why::NoWord, "no word of the language begins with this"),
+    (
+        Why::NoWord,
+        "no word of the language begins with this; & is its only operator on bits beside shifts, and it has no strings",
+    ),
     (
         Why::BadNumber,
         "expected a number from 0 to 65535 in decimal, after 0x or after 0b, or a quoted character",
@@ -18,7 +21,7 @@ static SENTENCES: [(Why, &str); 50] = [
     (Why::Expected, "expected $"),
     (
         Why::ExpectedValue,
-        "expected a value: a number, a name or a bracket",
+        "expected a value: a number without a sign, a name or a bracket",
     ),
     (
         Why::ExpectedCondition,
@@ -45,7 +48,7 @@ static SENTENCES: [(Why, &str); 50] = [
     ),
     (
         Why::ConstantRange,
-        "the constant does not fit a word, or is divided by 0",
+        "the constant does not fit a word, is divided by 0, or is the 0 of a fail",
     ),
     (
         Why::NoInstruction,
@@ -60,7 +63,10 @@ static SENTENCES: [(Why, &str); 50] = [
         "this may be refused, and the routine always returns a result: write else here, or ? after its result",
     ),
     (Why::Unset, "@ is not set on every path here"),
-    (Why::WhyUnknown, "why is not known here"),
+    (
+        Why::WhyUnknown,
+        "why is not known here: a fail without a number does not set it",
+    ),
     (
         Why::Stale,
         "@ may be stale: ~ on line ^ may move the chunks of its block; fetch it again",
@@ -69,7 +75,10 @@ static SENTENCES: [(Why, &str); 50] = [
         Why::NotFetched,
         "a pointer is not fetched on every path here",
     ),
-    (Why::NoWordLeft, "out of words: seven are taken here"),
+    (
+        Why::NoWordLeft,
+        "out of words: seven are taken here; { .. } ends names earlier, and a called routine takes words too",
+    ),
     (Why::NoPointerLeft, "out of pointers: four are taken here"),
     (Why::NoSlotLeft, "out of slots: four blocks are locked here"),
     (
@@ -86,15 +95,21 @@ static SENTENCES: [(Why, &str); 50] = [
         Why::PastEnd,
         "this is past the # bytes that the pointer is known to have",
     ),
-    (Why::Dropped, "the result is not used"),
-    (Why::Values, "the number of values does not match"),
+    (
+        Why::Dropped,
+        "the result is not used: name it, as in let x = ..",
+    ),
+    (
+        Why::Values,
+        "the number of values does not match: a routine with a result returns one on every path",
+    ),
     (Why::CallsItself, "@ calls itself, which no routine may"),
     (
         Why::Public,
         "a public routine is called only from outside, takes words and lent blocks, as b: vm, and returns no result",
     ),
     (Why::Kinds, "this is of a different kind"),
-    (Why::NoTurn, "a loop has at least one turn"),
+    (Why::NoTurn, "a loop has at least one iteration"),
     (Why::TooMany, "the program is too large"),
     (
         Why::NothingRefused,
@@ -105,15 +120,15 @@ static SENTENCES: [(Why, &str); 50] = [
     (Why::NoRoutine, "a program has at least one public routine"),
     (
         Why::Refused,
-        "the verifier refuses this by rule V#: test the index before it, as in if i <= 7 { .. }, or write ? after it",
+        "the verifier refuses this by rule V#: test the index against its greatest value before it, as in if i <= 7 { .. }, or write ? after it",
     ),
     (
         Why::NoSteps,
-        "no bound on the steps of @ is found: bound the number of turns by a test before the loop",
+        "no bound on the steps of @ is found: bound the number of iterations by a test before the loop",
     ),
 ];
 
-/// Appends the name that stands at a place.
+/// Appends the name at an offset.
 fn put_name(out: &mut Vec<u8>, text: &[u8], at: u32) -> Result<(), AllocError> {
     for byte in name_at(text, at) {
         if byte != 0 {

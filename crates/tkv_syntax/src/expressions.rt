@@ -1,4 +1,4 @@
-//! Values and conditions. The operations that wait for their second value stand in the list of what is not closed.
+//! Values and conditions. Operations that wait for their second value are in the list of open constructs.
 
 use crate::fault::Why;
 use crate::item::{Item, ItemKind};
@@ -87,7 +87,7 @@ impl Parser {
         }
     }
 
-    /// A name after which a bracket stands: a call.
+    /// A name that a bracket follows: a call.
     fn call(&mut self, at: u32) -> Next {
         if self.takes(Word::ParenEnd) {
             self.put_plain(ItemKind::Call, at);
@@ -167,7 +167,7 @@ impl Parser {
         Next::Operator
     }
 
-    /// A `?`, which belongs to what is just before.
+    /// A `?`, which belongs to what precedes it.
     fn question(&mut self) -> Next {
         let at = self.expect(Word::Asks);
         let item = self.retract(Why::NotRefusable);
@@ -289,7 +289,7 @@ impl Parser {
         }
     }
 
-    /// A comparison, or `!` and a test, which may stand in brackets.
+    /// A comparison, or `!` and a test, which may be in brackets.
     fn test(&mut self) {
         let mut negated = false;
         let mut brackets: u32 = 0;

@@ -27,7 +27,7 @@ pub enum ItemKind {
     Handle,
 
     // Statements.
-    /// A statement begins: `a` is 1 if it has a handler, `b` if `?` follows what is put out.
+    /// A statement begins: `a` is 1 if it has a handler, `b` is 1 if `?` follows an output.
     Begin,
     /// A statement ends.
     End,
@@ -39,7 +39,7 @@ pub enum ItemKind {
     Store,
     /// Nothing is done with what the call gives.
     Done,
-    /// Puts out a word.
+    /// Outputs a word.
     Put,
     /// Marks the block.
     Dirty,
@@ -64,13 +64,13 @@ pub enum ItemKind {
     Turns,
     /// Counts the name from one value to another, by a third.
     For,
-    /// A turn ends; all turns are used up; the loop ends.
+    /// An iteration ends; all iterations are used; the loop ends.
     TurnEnd,
     LoopDone,
     Try,
     TryElse,
     TryEnd,
-    /// The call locks a block: `a` and `b` are where its names stand, `c` is how many arguments it has; 256 is added if `?` follows.
+    /// The call locks a block: `a` and `b` are the offsets of its names, `c` is the number of its arguments, plus 256 if `?` follows.
     Lock,
     LockEnd,
     LockElse,
@@ -89,7 +89,7 @@ pub enum ItemKind {
     WordParam,
     /// A block: `a` is 0 for `mem`, 1 for `vm`, 2 for `group`.
     BlockParam,
-    /// A pointer: `a` is the constant of its bytes, `b` where its block's name stands.
+    /// A pointer: `a` is the constant of its bytes, `b` the offset of its block's name.
     PointerParam,
     /// The statements of a routine begin: `a` is 1 if `else` follows them.
     Body,
@@ -106,10 +106,10 @@ pub enum ItemKind {
 /// No constant, or no place.
 pub const NONE: u32 = u32::MAX;
 
-/// A constant is a number below this, or the name that stands so far past it in the source.
+/// A constant is a number below this, or this plus the offset of a name in the source.
 pub const NUMBERS: u32 = 65_536;
 
-/// An item: what it is, and where in the source it stands, mostly with its name.
+/// An item: what it is, and its offset in the source, mostly that of its name.
 #[derive(Clone, Copy)]
 pub struct Item {
     pub kind: ItemKind,

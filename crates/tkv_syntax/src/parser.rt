@@ -214,7 +214,7 @@ impl Parser {
         }
     }
 
-    /// A block parameter whose kind stands at a place.
+    /// A block parameter, from the offset of its kind.
     fn block_parameter(&mut self, at: u32, kind: u32) {
         let number = if self.is_named(kind, "mem") {
             0
@@ -296,7 +296,7 @@ impl Parser {
         self.enter(Part::Body);
     }
 
-    /// How many bytes a field has whose size stands at a place.
+    /// The bytes of a field, from the offset of its size.
     fn field_bytes(&mut self, size: u32) -> u32 {
         if self.is_named(size, "word") {
             return 2;

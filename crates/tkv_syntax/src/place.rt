@@ -17,7 +17,7 @@ fn feeds(text: &[u8]) -> usize
     text.iter().filter(|byte| **byte == b'\n').count()
 }
 
-/// How many bytes stand after the last line feed.
+/// The number of bytes after the last line feed.
 fn width(text: &[u8]) -> usize {
     let mut width: usize = 0;
     for byte in text {

@@ -127,7 +127,7 @@ impl Parser {
         self.finish(start);
     }
 
-    /// Puts out words.
+    /// Outputs words.
     fn output(&mut self, start: usize) {
         self.expect(Word::Out);
         self.expect(Word::Paren);
@@ -327,7 +327,7 @@ impl Parser {
         }
     }
 
-    /// The end of an `if`, and of each one in whose `else if` it stands.
+    /// The end of an `if`, and of each `if` whose `else if` it is.
     fn close_if(&mut self, at: u32) {
         self.put_plain(ItemKind::IfEnd, at);
         for _ in 0..self.pending.len() {

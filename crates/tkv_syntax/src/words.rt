@@ -65,7 +65,7 @@ pub enum Word {
     BracketEnd,
 }
 
-/// Each word, and how it is spelled or what it is called. The order is that of `Word`; longer signs come first.
+/// Each word with its text, or with what messages call it. The order is that of `Word`; longer signs come first.
 static WORDS: [(Word, &str); 57] = [
     (Word::End, "the end"),
     (Word::Named, "a name"),
@@ -127,7 +127,7 @@ static WORDS: [(Word, &str); 57] = [
 ];
 
 impl Word {
-    /// How it is spelled, or what it is called.
+    /// Its text, or what messages call it.
     pub fn text(self) -> &'static str {
         WORDS[self as usize].1
     }
@@ -149,7 +149,7 @@ pub(crate) fn is_letter(byte: u8) -> bool {
     byte.is_ascii_alphanumeric() || byte == b'_'
 }
 
-/// The name that stands at a place of a source: its first 16 letters.
+/// The name at an offset of a source: its first 16 letters.
 pub fn name_at(text: &[u8], at: u32) -> Name {
     let mut name = [0; 16];
     for k in 0..16 {
@@ -162,7 +162,7 @@ pub fn name_at(text: &[u8], at: u32) -> Name {
     name
 }
 
-/// Whether these bytes stand at a place.
+/// Whether these bytes are at an offset.
 fn stands(text: &[u8], at: u32, bytes: &[u8]) -> bool {
     for (k, byte) in bytes.iter().enumerate() {
         match text.get((at as usize).saturating_add(k)) {
@@ -182,7 +182,7 @@ pub(crate) fn is_named(text: &[u8], at: u32, name: &[u8]) -> bool {
     stands(text, at, name) && !is_letter(byte_at(text, (at as usize).saturating_add(name.len())))
 }
 
-/// The word that is spelled with so many letters here: a name, if no other word is.
+/// The word with this many letters here: a name, unless it is another word.
 pub(crate) fn lettered(text: &[u8], at: u32, length: u32) -> Word {
     for (word, spelled) in &WORDS {
         if spelled.len() == length as usize && stands(text, at, spelled.as_bytes()) {
@@ -192,7 +192,7 @@ pub(crate) fn lettered(text: &[u8], at: u32, length: u32) -> Word {
     Word::Named
 }
 
-/// The sign that stands at a place, if one does, and its length.
+/// The sign at an offset, if there is one, and its length.
 pub(crate) fn sign(text: &[u8], at: u32) -> Option<(Word, u32)> {
     for (word, spelled) in &WORDS {
         if stands(text, at, spelled.as_bytes()) {
