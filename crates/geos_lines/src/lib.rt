@@ -1,5 +1,4 @@
-//! What an author is told of the faulty lines of a text: each line, with the word at which it goes wrong and the form
-//! that is required.
+//! Reports on the faulty lines of a text: each line, with its first wrong word and the form that is required.
 //!
 //! docs/FORMATS.md has the sentences.
 #![tactic(auto)]

@@ -30,7 +30,7 @@ fn budget_misfit(word: &[u8]) -> Option<Misfit> {
     }
 }
 
-/// Where the words of a line from an index on, after `routine NAME`, stop being a budget.
+/// The first word of a line, from an index on and after `routine NAME`, that is not part of a budget.
 fn budget_stop(line: &[u8], from: usize) -> HeadStop
     requires { from ≤ length line.now }
 {
@@ -52,7 +52,7 @@ fn budget_stop(line: &[u8], from: usize) -> HeadStop
     }
 }
 
-/// Where the words of a line from an index on, after `routine`, stop being those that are required.
+/// The first word of a line, from an index on and after `routine`, that is not as required.
 fn head_stop(line: &[u8], from: usize) -> HeadStop
     requires { from ≤ length line.now }
 {
@@ -149,7 +149,7 @@ fn item_misfit(item: &[u8]) -> Option<Misfit> {
     }
 }
 
-/// How many registers have the letter, and what is said of them.
+/// The number of registers with the letter, and the text about them.
 fn registers(letter: u8) -> Option<(u8, &'static str)>
     ensures { IfSome result (λ found. found.0 ≤ 10) }
 {
@@ -161,7 +161,7 @@ fn registers(letter: u8) -> Option<(u8, &'static str)>
     }
 }
 
-/// What is said of a text that begins as a register does, if there is none of its number.
+/// The text about a word that begins like a register, if no register has its number.
 fn misnamed(text: &[u8]) -> Option<&'static str> {
     let (count, saying) = registers(*text.first()?)?;
     if !text.get(1)?.is_ascii_digit() {

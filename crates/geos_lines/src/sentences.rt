@@ -28,7 +28,7 @@ pub(crate) enum Wrong {
 }
 
 impl Wrong {
-    /// What is said of it after the word.
+    /// The text after the word.
     fn text(self) -> &'static str {
         match self {
             Wrong::NoWord => " is no word: words are w0 to w7",
@@ -47,7 +47,7 @@ impl Wrong {
         }
     }
 
-    /// The same without the reason, if another one is said.
+    /// The same without the reason, if another one follows.
     fn short_text(self) -> &'static str {
         match self {
             Wrong::NoWord => " is no word",

@@ -53,7 +53,7 @@ impl Beginning {
         }
     }
 
-    /// What is said of a line that is where it may not be.
+    /// The text about a line that is not allowed here.
     fn misplaced(self) -> &'static str {
         match self {
             Beginning::Routine => "the routine has no instruction",

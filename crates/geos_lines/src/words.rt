@@ -10,7 +10,7 @@ use geos_text::is_blank;
 #[derive(Clone, Copy)]
 pub struct Word<'a> {
     pub bytes: &'a [u8],
-    /// Where it begins in the line, in bytes from 0.
+    /// Its offset in the line, in bytes.
     pub start: usize,
     /// Where it ends: the words after it are from there on.
     pub end: usize,
@@ -26,7 +26,7 @@ fn blanks_in_front(line: &[u8]) -> usize
         .unwrap_or(line.len())
 }
 
-/// Where the first blank is in the line, or the line's length if it has none.
+/// The offset of the first blank in the line, or the line's length if it has none.
 fn end_of_word(line: &[u8]) -> usize
     ensures place { result ≡ position_or_len is_blank line.now }
     ensures within { result ≤ length line.now }

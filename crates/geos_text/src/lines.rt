@@ -26,7 +26,7 @@ fn without_carriage_return(line: &[u8]) -> &[u8]
     }
 }
 
-/// The first line, without its end, and the text behind it. A line ends with LF, CR LF or the
+/// The first line, without its end, and the text after it. A line ends with LF, CR LF or the
 /// end of the text.
 pub fn first_line(text: &[u8]) -> (&[u8], &[u8])
     ensures line { 0 < length text.now → lines text.now ≡ result.0.now ∷ lines result.1.now }

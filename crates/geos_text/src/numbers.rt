@@ -13,7 +13,7 @@ pub enum NumberError {
 }
 
 /// A number in decimal digits, at most the greatest one; leading zeros are allowed. `Malformed`
-/// where the word is empty or has another character, else `TooLarge` where the number is above
+/// where the word is empty or has another character, otherwise `TooLarge` if the number is above
 /// the greatest one.
 pub fn number_up_to(greatest: u32, word: &[u8]) -> Result<u32, NumberError>
     ensures value { result ≡ number_up_to greatest word.now }

@@ -11,7 +11,7 @@ pub enum Part<'a> {
     Text(&'a str),
     /// A name, or what was written before.
     Bytes(&'a [u8]),
-    /// A text, and behind it a number in decimal digits.
+    /// A text, and after it a number in decimal digits.
     Numbered(&'a str, u64),
 }
 

@@ -20,7 +20,7 @@ pub fn is_blank(byte: u8) -> bool
     byte == b' ' || byte == b'\t'
 }
 
-/// How many blanks stand in front of the first word.
+/// How many blanks stand before the first word.
 fn blanks_in_front(line: &[u8]) -> usize
     ensures place { result ≡ position_or_len (λ b. not (is_blank b)) line.now }
     ensures within { result ≤ length line.now }
@@ -40,7 +40,7 @@ fn end_of_word(line: &[u8]) -> usize
         .unwrap_or(line.len())
 }
 
-/// The first word, which blanks may precede, and the line behind it; `None` where there is
+/// The first word, which blanks may precede, and the line after it; `None` if there is
 /// none.
 pub fn first_word(line: &[u8]) -> Option<(&[u8], &[u8])>
     ensures none { IfNone result (words line.now ≡ []) }

@@ -2,6 +2,7 @@
 
 use crate::output::Output;
 use geos_text::{first_line, is_blank, without_comment};
+use line_marks::is_mark;
 use std::alloc::{AllocError, Global};
 
 /// Where instructions begin, in bytes from the start of a line; and how far a tab goes.
@@ -39,6 +40,10 @@ fn put_comment(out: &mut Output, code: &[u8], comment: &[u8]) {
 }
 
 fn put_line(out: &mut Output, line: &[u8]) {
+    if is_mark(line) {
+        out.put(line);
+        return out.end_line();
+    }
     let code = without_comment(line);
     put_words(out, code);
     let comment = &line[code.len()..];
@@ -50,10 +55,10 @@ fn put_line(out: &mut Output, line: &[u8]) {
 
 /// The text with labels and lines `routine` at the start of their lines, instructions from column 8, and one space between words. A comment
 /// keeps its column if the words before it leave a space, and otherwise follows after one. A comment on a line of its own begins at the
-/// start of the line, or if it was indented, at column 8 at most.
+/// start of the line, or if it was indented, at column 8 at most. A line mark of a preprocessor stays as it is.
 ///
 /// Each line keeps its words and its comment, so the text assembles to the same image; formatting it again changes nothing. Lines end
-/// with LF. An error says that an allocation was refused.
+/// with LF; a line whose last word ends with a CR has CR LF. An error says that an allocation was refused.
 pub fn formatted(alloc: Global, text: &[u8]) -> Result<Vec<u8>, AllocError> {
     let mut out = Output::new(alloc);
     let mut rest = text;

@@ -37,9 +37,10 @@ impl Output {
         }
     }
 
-    /// Ends the line.
+    /// Ends the line with LF, or with CR LF if its last byte is a CR, since a reader removes the CR before an LF.
     pub(crate) fn end_line(&mut self) {
-        self.put(b"\n");
+        let ends_with_cr = self.width > 0 && self.bytes.ends_with(b"\r");
+        self.put(if ends_with_cr { b"\r\n" } else { b"\n" });
         self.width = 0;
     }
 
