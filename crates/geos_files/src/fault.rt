@@ -3,11 +3,12 @@
 use geos_dump::DumpError;
 use geos_shell::{Diagnosed, StreamFault};
 use std::alloc::Global;
+use std::fmt::{self, Display, Formatter};
 use thiserror::Error;
 use vm_file::{CreateError, OpenError};
 
 /// Why a VM file was not made, opened or shown.
-#[derive(Debug, Drop, Error)]
+#[derive(Drop, Error)]
 pub enum FileFault<'a> {
     /// What a path names was not read or written.
     #[error(transparent)]
@@ -21,6 +22,12 @@ pub enum FileFault<'a> {
     /// The VM file was not shown.
     #[error(transparent)]
     Dump(#[from] DumpError),
+}
+
+impl fmt::Debug for FileFault<'_> {
+    fn fmt<W: fmt::Write>(&self, f: &mut Formatter<W>) -> fmt::Result {
+        Display::fmt(self, f)
+    }
 }
 
 impl Diagnosed for FileFault<'_> {

@@ -7,7 +7,7 @@ use crate::files::{Locked, lock_to_read, opened};
 use geos_dump::{Detail, DumpError, dump, map, read_areas};
 use geos_shell::print;
 
-/// What a VM file keeps, as text. Its lock is let go before the text is printed: whoever reads the text may want the file next.
+/// The contents of a VM file, as text. The lock is released before the text is printed: its reader may open the file next.
 fn text_of_file<'a>(
     rt: &HostRuntime,
     path: &'a str,
