@@ -1,9 +1,9 @@
-"""Writes the page of a run, without the run, as the strings of the crate trace_pages.
+"""Writes the page of a run, without the run, as strings of the crate geos_trace, each in a file of its own.
 
-    python3 tools/page.py [FILE]
+    python3 tools/page.py [FOLDER]
 
-FILE is crates/trace_pages/src/template.rt if it is not given. The page is page/page.html with the style of page/page.css, and with the
-scripts of page/ in the order below.
+FOLDER is crates/geos_trace/src if it is not given. The page is page/page.html with the style of page/page.css, and with the scripts of
+page/ in the order below.
 """
 
 import sys
@@ -11,6 +11,8 @@ from pathlib import Path
 
 TOP = Path(__file__).resolve().parent.parent
 SCRIPTS = ("run.js", "region.js", "panels.js", "player.js")
+# The script at which the part after the run is cut in two.
+PANELS = "panels.js"
 # Where the run comes.
 RUN = "<!-- run -->\n"
 HEAD = '//! The page around a run. Made by tools/page.py from page/.\n'
@@ -34,18 +36,18 @@ def literal(text: str) -> str:
     return '"' + text.replace("\\", "\\\\").replace('"', '\\"') + '"'
 
 
-def constant(name: str, said: str, text: str) -> str:
-    return f"\n/// {said}\npub(crate) const {name}: &str = {literal(text)};\n"
+def write(file: Path, name: str, said: str, text: str) -> None:
+    """Writes a file with a text as a constant."""
+    file.write_text(f"{HEAD}\n/// {said}\npub(crate) const {name}: &str = {literal(text)};\n")
 
 
 def main(words: list[str]) -> None:
+    folder = Path(words[0]) if words else TOP / "crates/geos_trace/src"
     before, _, after = page().partition(RUN)
-    file = Path(words[0]) if words else TOP / "crates/trace_pages/src/template.rt"
-    strings = [
-        constant("BEFORE_RUN", "What is before the run.", before),
-        constant("AFTER_RUN", "What is after it.", after),
-    ]
-    file.write_text(HEAD + "".join(strings))
+    run = after[: after.index((TOP / "page" / PANELS).read_text())]
+    write(folder / "page_begin.rt", "BEFORE_RUN", "What precedes the run.", before)
+    write(folder / "page_run.rt", "AFTER_RUN", "What follows the run, up to the script of the panels.", run)
+    write(folder / "page_panels.rt", "PANELS", "The rest of the page.", after[len(run) :])
 
 
 main(sys.argv[1:])

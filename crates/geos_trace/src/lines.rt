@@ -8,7 +8,7 @@ use geos_machine::{Outcome, Trace};
 use geos_text::put_numbered;
 use std::alloc::AllocError;
 
-/// Where an instruction stands: the number of its line in a text, where lines are given, or else its pc.
+/// The place of an instruction: the number of its line in a text, if lines are given, and otherwise its pc.
 fn place_of(lines: Option<&[u32]>, pc: u16) -> u32 {
     match lines {
         Some(lines) => lines.get(usize::from(pc)).copied().unwrap_or(0),
@@ -16,7 +16,7 @@ fn place_of(lines: Option<&[u32]>, pc: u16) -> u32 {
     }
 }
 
-/// Appends where an instruction stands, and the instruction as the listing has it.
+/// Appends the place of an instruction, and the instruction as the listing has it.
 pub(crate) fn put_placed(
     out: &mut Vec<u8>,
     image: &Image,
@@ -31,7 +31,7 @@ pub(crate) fn put_placed(
     put_code(out, image, image.instr(pc))
 }
 
-/// Appends a line for each instruction of the image: how often it ran, where it stands, and the instruction.
+/// Appends a line for each instruction of the image: how often it ran, its place, and the instruction.
 pub fn put_counts(
     out: &mut Vec<u8>,
     image: &Image,

@@ -22,7 +22,7 @@ pub fn put_done(out: &mut Vec<u8>, instr: &Instr, noted: &Noted) -> Result<(), A
     Ok(())
 }
 
-/// Appends the line of a step: where the instruction stands, the instruction, and behind a `;` what it did, if there is something to say.
+/// Appends the line of a step: the place of the instruction, the instruction, and after a `;` what it changed, if it changed something.
 fn put_step(
     out: &mut Vec<u8>,
     image: &Image,

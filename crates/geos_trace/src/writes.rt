@@ -6,7 +6,7 @@ use geos_opcodes::{CounterUse, Kind, Offset, Opcode, PointerUse, SlotUse, Width,
 use geos_text::put_numbered;
 use std::alloc::AllocError;
 
-/// What a word register has behind the step.
+/// What a word register has after the step.
 fn word(noted: &Noted, a: u8) -> u64 {
     noted.words.get(usize::from(a)).map_or(0, |n| u64::from(*n))
 }
@@ -42,7 +42,7 @@ fn put_words(out: &mut Vec<u8>, instr: &Instr, noted: &Noted) -> Result<(), Allo
     }
 }
 
-/// Whether it wrote counter a: LOOP does not where it goes on.
+/// Whether it wrote counter a: LOOP does not where it continues.
 fn writes_counter(counter: CounterUse, left: Left) -> bool {
     match counter {
         CounterUse::Untouched => false,
@@ -142,7 +142,7 @@ fn put_pointer(out: &mut Vec<u8>, instr: &Instr, noted: &Noted) -> Result<(), Al
     }
 }
 
-/// Appends all that it wrote: the word that it put out, slots, pointers, words and counters.
+/// Appends all that it wrote: the word that it output, slots, pointers, words and counters.
 pub(crate) fn put_writes(
     out: &mut Vec<u8>,
     instr: &Instr,

@@ -2,7 +2,9 @@
 
 use crate::json::Json;
 use crate::notes::Notes;
-use crate::template::{AFTER_RUN, BEFORE_RUN};
+use crate::page_begin::BEFORE_RUN;
+use crate::page_panels::PANELS;
+use crate::page_run::AFTER_RUN;
 use geos_machine::Outcome;
 use std::alloc::{AllocError, Global};
 
@@ -48,7 +50,7 @@ fn put_call(out: &mut Json, told: &Told<'_>) {
     out.put(b"]");
 }
 
-/// Appends the words that the run put out.
+/// Appends the words that the run output.
 fn put_output(out: &mut Json, outcome: &Outcome) {
     out.put(b",\n\"output\":[");
     let mut sign: &[u8] = b"";
@@ -105,5 +107,6 @@ pub fn html(
     put_told(&mut out, told, outcome);
     put_notes(&mut out, notes);
     out.put(AFTER_RUN.as_bytes());
+    out.put(PANELS.as_bytes());
     out.into_bytes()
 }

@@ -1,0 +1,363 @@
+//! The page around a run. Made by tools/page.py from page/.
+
+/// The rest of the page.
+pub(crate) const PANELS: &str = "// Registers, the bytes of a block, and the text.
+
+const $ = (id) => document.getElementById(id);
+
+function node(tag, attributes = {}, ...inside) {
+  const made = document.createElement(tag);
+  for (const [name, value] of Object.entries(attributes)) {
+    if (value !== false && value !== undefined) made.setAttribute(name, value === true ? \"\" : value);
+  }
+  made.append(...inside.filter((part) => part !== null && part !== undefined && part !== false));
+  return made;
+}
+
+const times = (n) => n === 1 ? \"once\" : n === 2 ? \"twice\" : n + \" times\";
+const hex4 = (n) => \"0x\" + n.toString(16).padStart(4, \"0\");
+
+function register(name, kind, value, small) {
+  return node(\"div\", { class: kind, \"data-register\": name }, node(\"b\", {}, name), value, small ? node(\"small\", {}, small) : null);
+}
+
+// Words or counters, with those marked that the last step changed.
+function number_set(letter, now, was) {
+  return now.map((n, i) => {
+    const made = register(letter + i, n !== was[i] ? \"changed\" : \"\", String(n));
+    made.title = hex4(n);
+    return made;
+  });
+}
+
+function slot_cell(run, slot, place) {
+  const block = run.held(slot, place);
+  if (!block) return register(\"s\" + slot, \"wide empty\", \"empty\");
+  const said = `locked ${times(block.locks)}${block.marked ? \", marked as changed\" : \"\"}`;
+  return register(\"s\" + slot, \"wide held\" + (block.vm ? \" vm\" : \"\"), block.key, said);
+}
+
+function pointer_cell(run, pointer, place) {
+  const target = run.targets[place][pointer];
+  const name = \"p\" + pointer;
+  if (!target) return register(name, \"wide empty\", \"\\u2013\");
+  const what = (target.element ? target.element + \" of \" : \"\") + `chunk ${target.chunk} of ${target.key}`;
+  if (!target.stale) return register(name, \"wide good\", what, `${target.len} bytes at ${target.at}`);
+  const now = run.now_at(target, place);
+  const step = run.steps[target.stale - 1];
+  const where = now === null ? \"no longer there\" : now === target.at ? \"still there\" : `now at ${now}`;
+  const cell = register(name, \"wide stale\", node(\"s\", {}, what), `stale since ${step.code.split(\" \")[0]} at ${step.number}; ${where}`);
+  cell.setAttribute(\"aria-label\", `${name} is stale: ${what}, ${where}`);
+  return cell;
+}
+
+function show_registers(run, place) {
+  const [now, was] = [run.state(place), run.state(Math.max(0, place - 1))];
+  const set = (...cells) => node(\"div\", { class: \"set\" }, ...cells);
+  $(\"registers\").replaceChildren(
+    set(...number_set(\"w\", now.words, was.words)),
+    set(...number_set(\"k\", now.counters, was.counters)),
+    set(...[0, 1, 2, 3].map((slot) => slot_cell(run, slot, place))),
+    set(...[0, 1, 2, 3].map((pointer) => pointer_cell(run, pointer, place))),
+  );
+}
+
+// The most bytes of a chunk that are drawn.
+const MOST_DRAWN = 1024;
+const per_row = () => window.innerWidth < 560 ? 8 : 16;
+const letter_of = (byte) => byte >= 32 && byte < 127 ? String.fromCharCode(byte) : \"\\u00b7\";
+const bytes_of = (hex) => (hex.match(/../g) || []).slice(0, MOST_DRAWN).map((pair) => parseInt(pair, 16));
+
+// A row of bytes, in hexadecimal digits and as text.
+function byte_row(bytes, from, count, kind_of) {
+  const cells = [node(\"th\", { scope: \"row\" }, String(from))];
+  for (let i = from; i < from + count; i++) {
+    const is_there = i < bytes.length;
+    cells.push(node(\"td\", { class: is_there ? kind_of(i) : false }, is_there ? bytes[i].toString(16).padStart(2, \"0\") : \"  \"));
+  }
+  const letters = bytes.slice(from, from + count).map(letter_of).join(\"\");
+  return node(\"tr\", {}, ...cells, node(\"td\", { class: \"ascii\" }, letters));
+}
+
+// The rows of bytes; of rows of zeros that did not change only the first one.
+function byte_rows(bytes, kind_of) {
+  const rows = [];
+  const wide = per_row();
+  const is_plain = (i) => bytes[i] === 0 && !/changed/.test(kind_of(i));
+  for (let from = 0; from < bytes.length; from += wide) {
+    rows.push(byte_row(bytes, from, wide, kind_of));
+    let end = from;
+    while (end < bytes.length && is_plain(end)) end++;
+    const more = Math.floor((end - from) / wide) - 1;
+    if (more < 2) continue;
+    rows.push(node(\"tr\", {}, node(\"th\", {}, \"\\u22ee\"), node(\"td\", { class: \"quiet\", colspan: wide + 1 }, `${more * wide} more zero bytes`)));
+    from += more * wide;
+  }
+  return rows;
+}
+
+function chunk_panel(run, block, was, c, place) {
+  const old = was?.chunks.find((o) => o.chunk === c.chunk);
+  const [bytes, before] = [bytes_of(c.hex), old ? bytes_of(old.hex) : []];
+  const at = run.targets[place].filter((t) => t && !t.stale && t.key === block.key && t.chunk === c.chunk);
+  const kind_of = (i) => {
+    const is_at = at.some((t) => i >= t.at - c.at && i < t.at - c.at + t.len);
+    return [bytes[i] === 0 && \"zero\", old && bytes[i] !== before[i] && \"changed\", is_at && \"at\"].filter((kind) => kind).join(\" \") || false;
+  };
+  const moved = old && old.at !== c.at ? node(\"span\", { class: \"tag news\" }, `moved from ${old.at}`) : null;
+  const made = was && !old ? node(\"span\", { class: \"tag news\" }, \"new\") : null;
+  const more = c.len > bytes.length ? node(\"p\", { class: \"quiet\" }, `${c.len - bytes.length} more bytes are not shown`) : null;
+  const about = node(\"small\", {}, `${c.len} bytes at ${c.at} `);
+  const names = run.targets[place].map((t, n) => at.includes(t) ? node(\"span\", { class: \"tag\" }, \"p\" + n) : null);
+  const panel = node(\"div\", { class: \"chunk\" }, node(\"h3\", {}, `chunk ${c.chunk}`, about, moved, made, ...names), node(\"table\", { class: \"bytes\" }, ...byte_rows(bytes, kind_of)), more);
+  panel.style.setProperty(\"--hue\", line_of(c.chunk));
+  return panel;
+}
+
+function show_block(run, place, chosen) {
+  const block = run.block(chosen, place);
+  if (!block) {
+    $(\"block\").replaceChildren(node(\"p\", { class: \"quiet\" }, run.blocks.size ? \"No block is held yet.\" : \"This run holds no block.\"));
+    return;
+  }
+  const was = place ? run.block(chosen, place - 1) : null;
+  const tags = [node(\"span\", { class: \"tag\" + (block.locks ? \" held\" : \"\") }, block.locks ? \"locked \" + times(block.locks) : \"not locked: it may move, or be gone\")];
+  if (block.marked) tags.push(node(\"span\", { class: \"tag news\" }, \"marked as changed\"));
+  if (was && was.placed && block.placed && was.from !== block.from) tags.push(node(\"span\", { class: \"tag news\" }, `moved from ${was.from}`));
+  const chunks = block.chunks.map((c) => chunk_panel(run, block, was?.locks ? was : null, c, place));
+  const none = block.locks && !chunks.length ? node(\"p\", { class: \"quiet\" }, \"It has no chunk yet.\") : null;
+  $(\"block\").replaceChildren(node(\"div\", {}, ...tags), ...chunks, none || \"\");
+}
+
+function show_tabs(run, place, chosen, choose) {
+  const tabs = run.blocks_at(place).map((block) => {
+    const tab = node(\"button\", { role: \"tab\", \"aria-selected\": String(block.key === chosen), \"aria-controls\": \"block\", class: block.locks ? false : \"free\" }, block.key);
+    tab.addEventListener(\"click\", () => choose(block.key));
+    return tab;
+  });
+  $(\"tabs\").replaceChildren(...tabs);
+}
+
+// The code of a line, with its comment apart.
+function code_of(code) {
+  const at = code.indexOf(\";\");
+  const parts = at < 0 ? [shown(code)] : [shown(code.slice(0, at)), node(\"span\", { class: \"comment\" }, shown(code.slice(at)))];
+  return node(\"span\", { class: \"code\" }, ...parts);
+}
+
+function known_of(known) {
+  const parts = known.split(/([sp]\\d=[^ ,]+)/).map((part) => /^[sp]\\d=/.test(part) ? node(\"span\", { class: part[0] }, part) : part);
+  return node(\"span\", { class: \"known\" }, ...parts);
+}
+
+function make_lines(run, go_to_line) {
+  const rows = run.lines.map((line, row) => {
+    const can = run.places[row].length > 0;
+    const item = node(\"li\", { class: can ? \"can\" : false, title: can ? `runs ${times(run.places[row].length)}` : undefined },
+      node(\"span\", { class: \"n\" }, line.number), code_of(line.code), known_of(line.known));
+    if (can) item.addEventListener(\"click\", () => go_to_line(row));
+    return item;
+  });
+  $(\"lines\").replaceChildren(...rows);
+  return rows;
+}
+
+// Goes through the run.
+
+class Player {
+  constructor(run) {
+    this.run = run;
+    this.place = 0;
+    this.chosen = null;
+    this.follows = true;
+    this.timer = null;
+    this.rows = make_lines(run, (row) => this.go_to_line(row));
+    this.region = new Region(run, (key) => this.choose(key));
+    this.marked = [];
+    this.head();
+    this.listen();
+    this.go(this.place_in_address());
+  }
+
+  head() {
+    const { run } = this;
+    document.title = run.call + \" \\u2013 \" + run.file;
+    $(\"call\").textContent = run.call;
+    $(\"about\").textContent = `${run.file} \\u00b7 ${run.data.steps} steps of a budget of ${run.data.budget}`;
+    $(\"slider\").max = run.last;
+    const cuts = [];
+    if (!run.whole) cuts.push(`The page shows the first ${run.states.length} of ${run.data.steps} steps.`);
+    if (run.data.blocks_cut) cuts.push(\"Notes of blocks were too long: those of later steps are left out.\");
+    $(\"cut\").textContent = cuts.join(\" \");
+    $(\"cut\").hidden = !cuts.length;
+    if (this.region.is_empty) $(\"region\").append(node(\"p\", { class: \"quiet\" }, \"This run holds no chunk.\"));
+    else $(\"region\").append(this.region.svg);
+  }
+
+  listen() {
+    const by = (n) => () => this.step(n);
+    $(\"first\").onclick = () => this.go(0);
+    $(\"back\").onclick = by(-1);
+    $(\"on\").onclick = by(1);
+    $(\"last\").onclick = () => this.go(this.run.last);
+    $(\"play\").onclick = () => this.toggle();
+    $(\"slider\").oninput = () => this.go(+$(\"slider\").value);
+    document.addEventListener(\"keydown\", (event) => this.key(event));
+    window.addEventListener(\"resize\", () => this.show());
+  }
+
+  key(event) {
+    if (event.ctrlKey || event.altKey || event.metaKey) return;
+    const moves = { ArrowLeft: this.place - 1, ArrowRight: this.place + 1, Home: 0, End: this.run.last, PageUp: this.place - 10, PageDown: this.place + 10 };
+    if (event.key in moves) this.go(moves[event.key]);
+    else if (event.key === \"n\" || event.key === \"p\") this.go_along_line(event.key === \"n\");
+    else if (event.key === \" \" && event.target.tagName !== \"BUTTON\") this.toggle();
+    else return;
+    event.preventDefault();
+  }
+
+  step(n) {
+    this.stop();
+    this.go(this.place + n);
+  }
+
+  go(place) {
+    this.place = Math.max(0, Math.min(this.run.last, place));
+    this.follow();
+    this.show();
+  }
+
+  // The place in the address, as #step=5.
+  place_in_address() {
+    const found = /^#step=(\\d+)$/.exec(location.hash);
+    return found ? +found[1] : 0;
+  }
+
+  // To the next step at a line, or else to the first one.
+  go_to_line(row) {
+    const places = this.run.places[row];
+    this.stop();
+    this.go(places.find((place) => place > this.place) ?? places[0]);
+  }
+
+  // To the next or the previous step at the line that is next now.
+  go_along_line(is_on) {
+    const { run, place } = this;
+    const places = run.places[run.next_row(place)] || [];
+    const found = is_on ? places.find((other) => other > place) : places.filter((other) => other < place).pop();
+    this.stop();
+    if (found !== undefined) this.go(found);
+  }
+
+  choose(key) {
+    this.chosen = key;
+    this.show();
+  }
+
+  toggle() {
+    if (this.timer) return this.stop();
+    if (this.place >= this.run.last) this.go(0);
+    this.timer = setInterval(() => this.place < this.run.last ? this.go(this.place + 1) : this.stop(), 700);
+    this.show_play();
+  }
+
+  stop() {
+    clearInterval(this.timer);
+    this.timer = null;
+    this.show_play();
+  }
+
+  show_play() {
+    $(\"play\").textContent = this.timer ? \"\\u275a\\u275a pause\" : \"\\u25b6\\ufe0e play\";
+    $(\"play\").setAttribute(\"aria-label\", this.timer ? \"Pause\" : \"Play\");
+  }
+
+  // Chooses the block that the last step changed, or one that is held.
+  follow() {
+    const { run, place } = this;
+    const blocks = run.blocks_at(place);
+    const changed = blocks.find((b) => b.locks && run.has_changed(b.key, place));
+    const still = blocks.find((b) => b.key === this.chosen && b.locks);
+    const found = changed || still || blocks.find((b) => b.locks) || blocks[blocks.length - 1];
+    this.chosen = found ? found.key : null;
+  }
+
+  show() {
+    const { run, place } = this;
+    $(\"slider\").value = place;
+    $(\"where\").textContent = `step ${place} of ${run.data.steps}`;
+    $(\"slider\").setAttribute(\"aria-valuetext\", $(\"where\").textContent);
+    for (const id of [\"first\", \"back\"]) $(id).disabled = place === 0;
+    for (const id of [\"on\", \"last\"]) $(id).disabled = place === run.last;
+    this.show_done();
+    this.show_line();
+    show_registers(run, place);
+    this.region.show(place, this.chosen);
+    show_tabs(run, place, this.chosen, (key) => this.choose(key));
+    show_block(run, place, this.chosen);
+    this.show_commits();
+    this.show_output();
+  }
+
+  // What the last step did, and what is next.
+  show_done() {
+    const { run, place } = this;
+    const step = place ? run.steps[place - 1] : null;
+    const parts = step ? [`${step.number}: ${step.code} `, node(\"b\", {}, step.did)] : [\"At the start. \"];
+    const moved = run.blocks_at(place).filter((b) => this.has_moved(b));
+    if (moved.length) parts.push(node(\"i\", {}, ` \\u2013 ${moved.map((b) => b.key).join(\", \")} moved`));
+    const stale = run.targets[place].map((t, n) => t && t.stale === place ? \"p\" + n : null).filter((name) => name);
+    if (place && stale.length) parts.push(node(\"i\", {}, ` \\u2013 ${stale.join(\", \")} stale`));
+    $(\"done\").replaceChildren(...parts);
+  }
+
+  has_moved(block) {
+    const was = this.place ? this.run.block(block.key, this.place - 1) : null;
+    return was && was.locks && was.placed && block.placed && was.from !== block.from;
+  }
+
+  show_line() {
+    const { run, place } = this;
+    for (const row of this.marked) {
+      row.classList.remove(\"now\", \"was\");
+      row.removeAttribute(\"aria-current\");
+    }
+    const now = this.rows[run.next_row(place)];
+    const was = place ? this.rows[run.row_of(run.steps[place - 1])] : null;
+    this.marked = [now, was].filter((row) => row);
+    if (was) was.classList.add(\"was\");
+    if (!now) return;
+    now.classList.add(\"now\");
+    now.setAttribute(\"aria-current\", \"step\");
+    this.scroll_to(now);
+  }
+
+  // Only the list scrolls, not the page.
+  scroll_to(row) {
+    const list = $(\"lines\");
+    const at = row.offsetTop - list.offsetTop;
+    if (at < list.scrollTop + 40 || at > list.scrollTop + list.clientHeight - 60) list.scrollTop = at - list.clientHeight / 2;
+  }
+
+  // Changes of the VM file, and commits, up to here.
+  show_commits() {
+    const commits = this.run.commits.filter((commit) => commit.place <= this.place);
+    $(\"commits-section\").hidden = !this.run.commits.length;
+    $(\"commits\").replaceChildren(...commits.map((c) => node(\"span\", { class: \"tag\" + (c.place === this.place ? \" news\" : \"\") }, `step ${c.place}: ${c.said}`)));
+    if (!commits.length) $(\"commits\").append(node(\"span\", { class: \"quiet\" }, \"nothing yet\"));
+  }
+
+  show_output() {
+    const { run, place } = this;
+    const count = run.outputs[Math.min(place, run.outputs.length - 1)];
+    const is_new = place > 0 && run.outputs[place - 1] < count;
+    const words = run.data.output.slice(0, count).map((word, n) => node(\"span\", { class: is_new && n === count - 1 ? \"changed\" : false, title: hex4(word) }, String(word)));
+    $(\"output\").replaceChildren(...(words.length ? words : [node(\"i\", { class: \"quiet\" }, \"nothing yet\")]));
+  }
+}
+
+window.player = new Player(new Run(JSON.parse($(\"run\").textContent)));
+</script>
+</body>
+</html>
+";
