@@ -4,7 +4,7 @@ ghost use Rattle.std.specs.Prelude.{◌<◌, IfSome};
 
 use geos_grants::Effects;
 
-/// The slot behind a word, as `0` in `reads-s0`.
+/// The slot after a word, as `0` in `reads-s0`.
 fn slot_behind(word: &str, front: &str) -> Option<usize>
     ensures { IfSome result (λ slot. slot < 4) }
 {

@@ -1,4 +1,4 @@
-//! What is said of the effects of an image.
+//! Sentences on the effects of an image.
 
 use crate::listed::put_effects;
 use geos_grants::{Effect, Effects, Excess, effects_of};
@@ -26,7 +26,7 @@ pub fn put_effect_lines(out: &mut Vec<u8>, checked: &Checked) -> Result<(), Allo
     Ok(())
 }
 
-/// What a routine does that has the effect, and the slot behind it, if one is.
+/// What a routine does that has the effect, and the slot after it, if one is.
 fn verb_of(effect: Effect) -> Part<'static> {
     match effect {
         Effect::Output => Part::Text(" outputs"),
@@ -41,7 +41,7 @@ fn verb_of(effect: Effect) -> Part<'static> {
     }
 }
 
-/// Where an instruction is: its line in a text, where lines are given, or else its pc.
+/// The place of an instruction: its line in a text, if lines are given, and otherwise its pc.
 fn place_of(lines: Option<&[u32]>, pc: u16) -> Part<'static> {
     match lines {
         Some(lines) => Part::Numbered(

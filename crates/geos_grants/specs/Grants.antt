@@ -1,5 +1,5 @@
 -- What it means that an image does only what was granted.
-use Rattle.std.specs.Prelude.{◌≡◌, ℕ, Bool, true, false, ◌&&◌, not, if◌then◌else◌, Option, Some, None, slice_get}
+use Rattle.std.specs.Prelude.{◌≡◌, ◌<◌, ℕ, Bool, true, false, ◌&&◌, not, if◌then◌else◌, Option, Some, None, slice_get}
 use Rattle.geos_image.specs.declared.routine.Routine.{Routine}
 use Rattle.geos_image.specs.Parts.{Parts}
 use Rattle.geos_grants.specs.declared.effect.Effect.{Effect}
@@ -12,6 +12,11 @@ use Rattle.geos_grants.specs.Sets.{has}
 -- routine r does only what is granted
 abbrev pub DoesOnly : Parts → Effects → ℕ → Type 0
 DoesOnly image grants r = (effect : Effect) → has_effect image effect r ≡ true → has grants effect ≡ true
+
+-- each public routine before the one with this number does only what is granted
+abbrev pub IsGrantedBelow : Parts → Effects → ℕ → Type 0
+IsGrantedBelow image grants r = (q : ℕ) (routine : Routine) → q < r → slice_get image.routines q ≡ Some routine → routine.public ≡ true
+    → DoesOnly image grants q
 
 -- each public routine does only what is granted
 abbrev pub IsGranted : Parts → Effects → Type 0

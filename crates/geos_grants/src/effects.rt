@@ -55,7 +55,7 @@ fn one_of(flag: bool, other: bool) -> bool
     flag || other
 }
 
-/// A law: a set has flags for four slots.
+/// Lemma: a set has flags for four slots.
 fn have_four(flags: &[bool; 4])
     ensures { length flags.now ≡ 4 }
 {}

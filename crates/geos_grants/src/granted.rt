@@ -1,7 +1,7 @@
 //! Whether an image does only what is granted.
 
 ghost use Rattle.std.specs.Prelude.{◌≡◌, ℕ, true, false, slice_index_or, IfSome, IfNone, IfOk, IfErr};
-ghost use Rattle.geos_grants.specs.Grants.{plain_beyond, IsGranted, IsExcess};
+ghost use Rattle.geos_grants.specs.Grants.{plain_beyond, IsGranted, IsGrantedBelow, IsExcess};
 ghost use Rattle.geos_verify.specs.Rules.{IsChecked};
 ghost use Rattle.geos_grants.specs.Routines.{NotesAll};
 ghost use Rattle.geos_grants.specs.Sets.{has};
@@ -92,6 +92,7 @@ fn first_excess(image: &Image, table: &EffectTable, grants: &Effects) -> Option<
     requires notes { NotesAll image.now table.now }
     ensures none { IfNone result (IsGranted image.now grants.now) }
     ensures some { IfSome result (IsExcess image.now grants.now) }
+    ensures first { IfSome result (λ excess. IsGrantedBelow image.now grants.now excess.routine) }
 {
     for r in 0..image.count() {
         if image.routine(r).public {
@@ -107,13 +108,14 @@ fn first_excess(image: &Image, table: &EffectTable, grants: &Effects) -> Option<
     None
 }
 
-/// Whether each public routine of an accepted image does only what is granted, with the routines that it calls; else the first public
+/// Whether each public routine of an accepted image does only what is granted, with the routines that it calls; otherwise the first public
 /// routine that does more, an effect that is not granted, and an instruction that has it.
 pub fn grant<'a>(checked: &'a Checked, grants: &Effects) -> Result<Granted<'a>, Excess>
     ensures image { IfOk result (λ granted. granted.checked.now ≡ checked.now) }
     ensures grants { IfOk result (λ granted. granted.grants ≡ grants.now) }
     ensures only { IfOk result (λ granted. IsGranted checked.now grants.now) }
     ensures excess { IfErr result (IsExcess checked.now grants.now) }
+    ensures first { IfErr result (λ excess. IsGrantedBelow checked.now grants.now excess.routine) }
 {
     match first_excess(checked.image(), &effects_of(checked), grants) {
         None => Ok(Granted {

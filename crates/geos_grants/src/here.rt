@@ -197,7 +197,7 @@ fn lent_slots(row: &Row, slot: Option<u8>) -> [bool; 4]
     [first, second, third, fourth]
 }
 
-/// A law: a row has four slots.
+/// Lemma: a row has four slots.
 fn have_four(slots: &[SlotState; 4])
     ensures { length slots.now ≡ 4 }
 {}

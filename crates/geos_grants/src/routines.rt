@@ -15,7 +15,7 @@ use crate::here::effects_at;
 use geos_image::{Image, Instr, Row};
 use geos_verify::{Checked, calls, row_next};
 
-/// The effects of each routine of an image, by its index; behind the last routine they mean nothing.
+/// The effects of each routine of an image, by its index; after the last routine they mean nothing.
 pub type EffectTable = [Effects; 32];
 
 /// What a table says of a routine; of one past the last, nothing.

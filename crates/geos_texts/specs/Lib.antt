@@ -1,1 +1,3 @@
+pub mod Budgets
 pub mod Commands
+pub mod Keeping

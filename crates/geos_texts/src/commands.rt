@@ -6,17 +6,18 @@ ghost use Rattle.geos_image.specs.Reading.{image_at, Fails};
 ghost use Rattle.geos_texts.specs.Commands.{IsAssembledAs, TakesVersion2, IsImageOf, IsWhyNoneOf, IsListed};
 ghost use Rattle.geos_texts.specs.Commands.{IsJudged, IsJudgedText, IsFaultTold, begins_as_image};
 
+use effect_texts::put_effect_lines;
 use geos_asm::{
     AssembleError, Assembled, Unassembled, assemble_all_rows, assemble_or_tell, assemble_with_lines,
 };
 use geos_explain::{explain, explain_cause, explain_text};
 use geos_image::ReadError;
 use geos_lines::tell_faults;
-use geos_verify::{Reject, check, refused_places};
+use geos_verify::{Checked, Reject, check, refused_places};
 use round_trip::list;
 use std::alloc::{AllocError, Global};
 
-/// The bytes of the image of an assembly text with all rows, of version 1. `None` where a slot is borrowed, which takes
+/// The bytes of the image of an assembly text with all rows, of version 1. `None` if a slot is borrowed, which takes
 /// version 2. Its faults are those of `geos_asm::assemble`.
 pub(crate) fn assemble_all_rows_bytes(
     alloc: Global,
@@ -27,7 +28,7 @@ pub(crate) fn assemble_all_rows_bytes(
     ensures fault { IfErr result (IsWhyNoImage text.now) }
 {
     let whole = assemble_all_rows(alloc, text)?;
-    // For what `len` says of it: slots alone may keep it from being an image of version 1.
+    // Recalls the facts of `len`: only slots can prevent that it is an image of version 1.
     let _formed = whole.len();
     match whole.into_image() {
         Some(image) => Ok(Some(geos_image::write(alloc, &image)?)),
@@ -35,7 +36,7 @@ pub(crate) fn assemble_all_rows_bytes(
     }
 }
 
-/// The listing of the image that the bytes spell. `ReadError::BadImage` where they spell none.
+/// The listing of the image that the bytes encode. `ReadError::BadImage` if they encode none.
 pub(crate) fn list_bytes(alloc: Global, bytes: &[u8]) -> Result<Vec<u8>, ReadError>
     ensures listed { IfOk result (λ text. IsListed bytes.now text.items) }
     ensures fault { IfErr result (λ fault. Fails fault (image_at bytes.now)) }
@@ -44,8 +45,8 @@ pub(crate) fn list_bytes(alloc: Global, bytes: &[u8]) -> Result<Vec<u8>, ReadErr
     Ok(list(alloc, &image)?)
 }
 
-/// The first refusal of the image that the bytes spell, if the verifier refuses it.
-/// `ReadError::BadImage` where they spell none.
+/// The first refusal of the image that the bytes encode, if the verifier refuses it.
+/// `ReadError::BadImage` if they encode none.
 pub(crate) fn check_bytes(alloc: Global, bytes: &[u8]) -> Result<Option<Reject>, ReadError>
     ensures judged { IfOk result (IsJudged bytes.now) }
     ensures fault { IfErr result (λ fault. Fails fault (image_at bytes.now)) }
@@ -62,12 +63,21 @@ pub(crate) fn check_bytes(alloc: Global, bytes: &[u8]) -> Result<Option<Reject>,
 pub(crate) struct Explained {
     /// The listing or the text with what is known at each instruction, and what is wrong at each that is refused.
     pub(crate) text: Vec<u8>,
+    /// Comments with the effects of each routine, if the verifier accepts the image.
+    pub(crate) effects: Vec<u8>,
     /// The first refusal, if the verifier refuses the image.
     pub(crate) reject: Option<Reject>,
 }
 
-/// The listing of the image that the bytes spell, with what is known at each instruction; and
-/// whether the verifier accepts it. `ReadError::BadImage` where they spell none.
+/// The comments with the effects of each routine.
+pub(crate) fn effect_comments(alloc: Global, checked: &Checked) -> Result<Vec<u8>, AllocError> {
+    let mut out = Vec::new(alloc);
+    put_effect_lines(&mut out, checked)?;
+    Ok(out)
+}
+
+/// The listing of the image that the bytes encode, with what is known at each instruction; and
+/// whether the verifier accepts it. `ReadError::BadImage` if they encode none.
 pub(crate) fn explain_bytes(alloc: Global, bytes: &[u8]) -> Result<Explained, ReadError>
     ensures explained { IfOk result (λ explained. IsJudged bytes.now explained.reject) }
     ensures fault { IfErr result (λ fault. Fails fault (image_at bytes.now)) }
@@ -76,10 +86,12 @@ pub(crate) fn explain_bytes(alloc: Global, bytes: &[u8]) -> Result<Explained, Re
     match check(image) {
         Ok(checked) => Ok(Explained {
             text: explain(alloc, checked.image(), &[])?,
+            effects: effect_comments(alloc, &checked)?,
             reject: None,
         }),
         Err((image, reject)) => Ok(Explained {
             text: explain(alloc, &image, &refused_places(&image))?,
+            effects: Vec::new(alloc),
             reject: Some(reject),
         }),
     }
@@ -97,6 +109,8 @@ pub(crate) fn begins_as_image(bytes: &[u8]) -> bool
 pub(crate) struct Made {
     pub(crate) image: Vec<u8>,
     pub(crate) lines: Option<Vec<u32>>,
+    /// The text, if it is still needed.
+    pub(crate) text: Vec<u8>,
 }
 
 /// A text without an image, and its fault of `geos_asm::assemble`.
@@ -115,6 +129,7 @@ pub(crate) fn made_of_text(alloc: Global, text: &[u8]) -> Result<Made, AssembleE
     Ok(Made {
         image: geos_image::write(alloc, &image)?,
         lines: Some(lines),
+        text: Vec::new(alloc),
     })
 }
 
@@ -128,10 +143,15 @@ pub(crate) fn image_of(alloc: Global, bytes: Vec<u8>) -> Result<Made, NotMade>
         return Ok(Made {
             image: bytes,
             lines: None,
+            text: Vec::new(alloc),
         });
     }
     match made_of_text(alloc, &bytes) {
-        Ok(made) => Ok(made),
+        Ok(Made { image, lines, .. }) => Ok(Made {
+            image,
+            lines,
+            text: bytes,
+        }),
         Err(fault) => Err(NotMade { text: bytes, fault }),
     }
 }
@@ -149,10 +169,12 @@ fn explain_assembled(
     match check(image) {
         Ok(checked) => Ok(Explained {
             text: explain_text(alloc, text, &lines, checked.image(), &[])?,
+            effects: effect_comments(alloc, &checked)?,
             reject: None,
         }),
         Err((image, reject)) => Ok(Explained {
             text: explain_text(alloc, text, &lines, &image, &refused_places(&image))?,
+            effects: Vec::new(alloc),
             reject: Some(reject),
         }),
     }
@@ -168,7 +190,7 @@ pub(crate) struct Faulty {
 }
 
 /// The lines of a text that assembles, with what is known at each instruction; and whether the verifier accepts its
-/// image. Else why there is none.
+/// image. Otherwise why there is none.
 pub(crate) fn explain_text_bytes(
     alloc: Global,
     text: &[u8],

@@ -8,29 +8,67 @@ use geos_image::ReadError;
 use geos_input::ScriptFault;
 use geos_shell::{Diagnosed, Named, StreamFault};
 use geos_verify::Reject;
+use line_marks::LineMarks;
 use std::alloc::Global;
 use std::fmt::{self, Display, Formatter};
 use thiserror::Error;
 
 /// A text that is not assembled, and its fault.
-#[derive(Debug, Drop)]
+#[derive(Drop)]
 pub struct FaultyText<'a> {
     /// The path that was read.
     pub path: &'a str,
-    /// The text.
+    /// The text, in which line marks are comments.
     pub text: Vec<u8>,
+    /// Its line marks.
+    pub marks: LineMarks,
     /// Its fault.
     pub fault: AssembleError,
+    /// What is said of the fault if the text has line marks.
+    said: Option<String>,
+}
+
+impl<'a> FaultyText<'a> {
+    /// The text of a path, in which line marks are comments, and its fault.
+    pub(crate) fn new(
+        alloc: Global,
+        path: &'a str,
+        text: Vec<u8>,
+        marks: LineMarks,
+        fault: AssembleError,
+    ) -> FaultyText<'a> {
+        let said = said_by_marks(alloc, &marks, &fault);
+        FaultyText {
+            path,
+            text,
+            marks,
+            fault,
+            said,
+        }
+    }
 }
 
 impl Display for FaultyText<'_> {
     fn fmt<W: fmt::Write>(&self, f: &mut Formatter<W>) -> fmt::Result {
-        self.fault.fmt(f)
+        match &self.said {
+            Some(said) => f.write_str(said.as_str()),
+            None => self.fault.fmt(f),
+        }
     }
 }
 
+/// What is said of a fault of a text with line marks. Nothing if the text has none, or if there is no memory.
+fn said_by_marks<F: Display>(alloc: Global, marks: &LineMarks, fault: &F) -> Option<String> {
+    if marks.is_empty() {
+        return None;
+    }
+    let said = format!(in alloc; "{fault}").ok()?;
+    let by_marks = marks.sentences(alloc, None, said.as_bytes()).ok()?;
+    String::from_utf8(by_marks).ok()
+}
+
 /// An image that the verifier refuses, and its first refusal.
-#[derive(Debug, Drop)]
+#[derive(Drop)]
 pub struct Refused<'a> {
     /// The image.
     pub image: Runnable<'a>,
@@ -45,7 +83,7 @@ impl Display for Refused<'_> {
 }
 
 /// Why a request on a text or an image was not carried out.
-#[derive(Debug, Drop, Error)]
+#[derive(Drop, Error)]
 pub enum TextFault<'a> {
     /// What a path names was not read or written.
     #[error(transparent)]
@@ -62,13 +100,13 @@ pub enum TextFault<'a> {
     /// A text has no budgets that are enough.
     #[error(transparent)]
     Budget(#[from] BudgetError),
-    /// An image of version 1 is wanted of a text with a borrowed slot.
+    /// An image of version 1 is required of a text with a borrowed slot.
     #[error("a borrowed slot takes version 2")]
     TakesVersion2,
-    /// An image of version 1 is wanted of a source.
+    /// An image of version 1 is required of a source.
     #[error("--all-rows requires an assembly text")]
     AllRowsOfSource,
-    /// An assembly text is wanted, and a source or an image is given.
+    /// An assembly text is required, and a source or an image is given.
     #[error("fmt requires an assembly text")]
     NoText,
     /// A text is longer than a text may be.
@@ -95,6 +133,33 @@ pub enum TextFault<'a> {
     /// The verifier refuses an image that was explained.
     #[error(transparent)]
     Explained(Reject),
+    /// What is said of a fault of a text with line marks.
+    #[error("{0}")]
+    Marked(String),
+}
+
+impl<'a> TextFault<'a> {
+    /// The fault of a text with these line marks, which name its lines.
+    pub(crate) fn by_marks(self, alloc: Global, marks: &LineMarks) -> TextFault<'a> {
+        match said_by_marks(alloc, marks, &self) {
+            Some(said) => TextFault::Marked(said),
+            None => self,
+        }
+    }
+}
+
+/// Diagnostics with the files and lines that line marks name. Empty if there is no memory.
+pub(crate) fn by_marks(alloc: Global, marks: &LineMarks, file: &str, told: Vec<u8>) -> Vec<u8> {
+    match marks.diagnostics(alloc, file, told) {
+        Ok(told) => told,
+        Err(_) => Vec::new(alloc),
+    }
+}
+
+impl fmt::Debug for TextFault<'_> {
+    fn fmt<W: fmt::Write>(&self, f: &mut Formatter<W>) -> fmt::Result {
+        Display::fmt(self, f)
+    }
 }
 
 impl Diagnosed for TextFault<'_> {
@@ -115,10 +180,11 @@ impl FaultyText<'_> {
         let Ok(file) = format!(in alloc; "{path}") else {
             return Vec::new(alloc);
         };
-        match of_text(alloc, &file, &self.text) {
+        let told = match of_text(alloc, &file, &self.text) {
             Ok(told) => told,
             Err(_) => Vec::new(alloc),
-        }
+        };
+        by_marks(alloc, &self.marks, &file, told)
     }
 }
 
@@ -129,9 +195,10 @@ impl Runnable<'_> {
         let Ok(file) = format!(in alloc; "{path}") else {
             return Vec::new(alloc);
         };
-        match self.diagnostics(alloc, &file) {
+        let told = match self.diagnostics(alloc, &file) {
             Ok(told) => told,
             Err(_) => Vec::new(alloc),
-        }
+        };
+        by_marks(alloc, &self.marks, &file, told)
     }
 }

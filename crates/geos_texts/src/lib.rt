@@ -3,16 +3,18 @@
 //! It runs nothing, so that it is proved beside the crates that do.
 #![tactic(auto)]
 
+mod budgets;
 mod commands;
 mod diagnostics;
 mod fault;
 mod grants;
+mod limited;
 mod requests;
 mod runnable;
 mod sources;
 
 pub use fault::{FaultyText, Refused, TextFault};
-pub use grants::{keep_to_grants, keep_to_steps};
+pub use limited::{Limited, Limits};
 pub use requests::{
     KnownLines, assemble, assemble_all, budget, check, explain, explain_script, format,
     known_lines, list, read_and_warn,

@@ -6,14 +6,14 @@ use crate::commands::{
 };
 use crate::fault::{FaultyText, Refused, TextFault};
 use crate::grants::effect_lines;
-use crate::runnable::{Runnable, read_completed};
+use crate::runnable::{Runnable, Unmarked, read_completed, read_unmarked};
 use crate::sources::is_source;
-use geos_asm::{AssembleError, BudgetError, Budgeted, completed, find_budgets};
-use geos_image::Image;
+use geos_asm::{AssembleError, Assembled, BudgetError, Budgeted, completed, find_budgets};
 use geos_input::{MOST_BYTES, ScriptFault};
 use geos_scripts::{BadLines, NameUse, tell_bad_lines};
 use geos_shell::{NewText, Reports, STANDARD, StreamFault, print, print_lines, read, tell, write};
 use geos_verify::{Reject, check as check_image};
+use line_marks::LineMarks;
 use std::alloc::Global;
 use text_format::formatted;
 
@@ -30,15 +30,15 @@ pub fn assemble_all<'a>(
     if is_source(text) {
         return Err(TextFault::AllRowsOfSource);
     }
-    let bytes = read(rt, text, MOST_READ)?;
+    let Unmarked { bytes, marks } = read_unmarked(rt, text)?;
     match assemble_all_rows_bytes(rt.alloc(), &bytes) {
         Ok(Some(made)) => Ok(write(rt, image, &made, text)?),
         Ok(None) => Err(TextFault::TakesVersion2),
-        Err(fault) => Err(not_assembled(text, bytes, fault)),
+        Err(fault) => Err(not_assembled(rt.alloc(), text, bytes, marks, fault)),
     }
 }
 
-/// Writes the image of a text to the path `image`, with rows at its key places, and reports warnings, if they are wanted. Returns what was
+/// Writes the image of a text to the path `image`, with rows at its key places, and reports warnings, if they are required. Returns what was
 /// written. The faults are those of `geos_asm::assemble` and of the two streams.
 pub fn assemble<'a>(
     rt: &HostRuntime,
@@ -51,23 +51,25 @@ pub fn assemble<'a>(
         write(rt, image, &made.image, text)?;
         return Ok(made);
     }
-    let bytes = read(rt, text, MOST_READ)?;
+    let Unmarked { bytes, marks } = read_unmarked(rt, text)?;
     match made_of_text(rt.alloc(), &bytes) {
         Ok(made) => {
             let made = Runnable {
                 path: text,
                 image: made.image,
                 lines: made.lines,
+                text: made.text,
+                marks,
             };
             warn(rt, reports, &made);
             write(rt, image, &made.image, text)?;
             Ok(made)
         }
-        Err(fault) => Err(not_assembled(text, bytes, fault)),
+        Err(fault) => Err(not_assembled(rt.alloc(), text, bytes, marks, fault)),
     }
 }
 
-/// Reports the warnings about a text, if they are wanted.
+/// Reports the warnings about a text, if they are required.
 fn warn(rt: &HostRuntime, reports: Reports, image: &Runnable<'_>) {
     if reports.warnings && !reports.json {
         tell(rt, &image.warnings(rt.alloc()));
@@ -75,24 +77,32 @@ fn warn(rt: &HostRuntime, reports: Reports, image: &Runnable<'_>) {
 }
 
 /// The fault of a text that is not assembled.
-fn not_assembled<'a>(path: &'a str, text: Vec<u8>, fault: AssembleError) -> TextFault<'a> {
-    TextFault::Assemble(FaultyText { path, text, fault })
+fn not_assembled<'a>(
+    alloc: Global,
+    path: &'a str,
+    text: Vec<u8>,
+    marks: LineMarks,
+    fault: AssembleError,
+) -> TextFault<'a> {
+    TextFault::Assemble(FaultyText::new(alloc, path, text, marks, fault))
 }
 
 /// The fault of a text with the least budgets that the verifier refuses.
 fn refused<'a>(
     alloc: Global,
     path: &'a str,
-    image: &Image,
-    lines: Vec<u32>,
+    made: Assembled,
+    marks: LineMarks,
     reject: Reject,
 ) -> TextFault<'a> {
-    match geos_image::write(alloc, image) {
+    match geos_image::write(alloc, &made.image) {
         Ok(bytes) => TextFault::Refused(Refused {
             image: Runnable {
                 path,
                 image: bytes,
-                lines: Some(lines),
+                lines: Some(made.lines),
+                text: Vec::new(alloc),
+                marks,
             },
             reject,
         }),
@@ -104,18 +114,30 @@ fn refused<'a>(
 fn accepted_with_least<'a>(
     alloc: Global,
     path: &'a str,
-    text: Vec<u8>,
+    unmarked: Unmarked,
 ) -> Result<Vec<u8>, TextFault<'a>> {
+    let Unmarked { bytes: text, marks } = unmarked;
     match find_budgets(alloc, &text) {
-        Ok(Budgeted { text: new, made }) => match check_image(made.image) {
-            Ok(_checked) => Ok(new),
-            Err((image, reject)) => Err(refused(alloc, path, &image, made.lines, reject)),
+        Ok(
+            Budgeted {
+                text: mut new,
+                made: Assembled { image, lines },
+            },
+        ) => match check_image(image) {
+            Ok(_checked) => {
+                marks.restore(&mut new);
+                Ok(new)
+            }
+            Err((image, reject)) => {
+                let made = Assembled { image, lines };
+                Err(refused(alloc, path, made, marks, reject))
+            }
         },
         Err(BudgetError::Assemble(fault)) => match completed(alloc, text) {
-            Ok(text) => Err(not_assembled(path, text, fault)),
+            Ok(text) => Err(not_assembled(alloc, path, text, marks, fault)),
             Err(_) => Err(TextFault::Stream(StreamFault::Memory)),
         },
-        Err(fault) => Err(TextFault::Budget(fault)),
+        Err(fault) => Err(TextFault::Budget(fault).by_marks(alloc, &marks)),
     }
 }
 
@@ -145,12 +167,12 @@ pub fn format<'a>(rt: &HostRuntime, paths: NewText<'a>) -> Result<(), TextFault<
 /// Writes a text with the least budget of each routine. `TextFault::Budget` if no budgets are enough, and `TextFault::Refused` if the verifier refuses the text with them; then nothing is
 /// written.
 pub fn budget<'a>(rt: &HostRuntime, paths: NewText<'a>) -> Result<(), TextFault<'a>> {
-    let bytes = read(rt, paths.text, MOST_READ)?;
-    let made = accepted_with_least(rt.alloc(), paths.text, bytes)?;
+    let unmarked = read_unmarked(rt, paths.text)?;
+    let made = accepted_with_least(rt.alloc(), paths.text, unmarked)?;
     write_new(rt, paths, &made)
 }
 
-/// Reads what a path names, as `Runnable::read`, and reports the warnings about a text, if they are wanted.
+/// Reads what a path names, as `Runnable::read`, and reports the warnings about a text, if they are required.
 pub fn read_and_warn<'a>(
     rt: &HostRuntime,
     reports: Reports,
@@ -170,7 +192,7 @@ pub fn list<'a>(rt: &HostRuntime, path: &'a str) -> Result<(), TextFault<'a>> {
     Ok(print(rt, &effects)?)
 }
 
-/// Prints `accepted` if the image, or the image of a text, may run, and reports warnings about a text, if they are wanted. `TextFault::Refused` if the verifier refuses it, and `TextFault::Read` if
+/// Prints `accepted` if the image, or the image of a text, may run, and reports warnings about a text, if they are required. `TextFault::Refused` if the verifier refuses it, and `TextFault::Read` if
 /// the bytes begin as an image does and are none.
 pub fn check<'a>(rt: &HostRuntime, reports: Reports, path: &'a str) -> Result<(), TextFault<'a>> {
     let image = read_and_warn(rt, reports, path)?;
@@ -192,24 +214,45 @@ fn print_why<'a>(rt: &HostRuntime, text: &[u8], told: &[u8]) -> Result<(), Strea
     }
 }
 
+/// What is said of lines, which line marks name. Without marks it stays as it is.
+fn told_by_marks<'a>(
+    alloc: Global,
+    marks: &LineMarks,
+    told: Vec<u8>,
+) -> Result<Vec<u8>, StreamFault<'a>> {
+    if marks.is_empty() {
+        return Ok(told);
+    }
+    match marks.sentences(alloc, None, &told) {
+        Ok(told) => Ok(told),
+        Err(_) => Err(StreamFault::Memory),
+    }
+}
+
 /// What there is to say of a text. If the text is not assembled, it prints why.
-fn explained_text<'a>(rt: &HostRuntime, text: &[u8]) -> Result<Explained, TextFault<'a>> {
+fn explained_text<'a>(
+    rt: &HostRuntime,
+    text: &[u8],
+    marks: &LineMarks,
+) -> Result<Explained, TextFault<'a>> {
     match explain_text_bytes(rt.alloc(), text) {
         Ok(Ok(explained)) => Ok(explained),
         Ok(Err(faulty)) => {
-            print_why(rt, text, &faulty.told)?;
-            Err(TextFault::Unexplained(faulty.fault))
+            let told = told_by_marks(rt.alloc(), marks, faulty.told)?;
+            print_why(rt, text, &told)?;
+            Err(TextFault::Unexplained(faulty.fault).by_marks(rt.alloc(), marks))
         }
         Err(_) => Err(TextFault::Unexplained(AssembleError::Memory)),
     }
 }
 
 /// What there is to say of an image, or of a text.
-fn explained<'a>(rt: &HostRuntime, bytes: &[u8]) -> Result<Explained, TextFault<'a>> {
+fn explained<'a>(rt: &HostRuntime, unmarked: &Unmarked) -> Result<Explained, TextFault<'a>> {
+    let bytes = unmarked.bytes.as_slice();
     if begins_as_image(bytes) {
         Ok(explain_bytes(rt.alloc(), bytes)?)
     } else {
-        explained_text(rt, bytes)
+        explained_text(rt, bytes, &unmarked.marks)
     }
 }
 
@@ -235,23 +278,27 @@ pub fn known_lines<'a>(
             of_text: false,
         });
     }
-    let text = read_completed(rt, path)?;
+    let Unmarked { bytes, marks } = read_completed(rt, path)?;
     Ok(KnownLines {
-        lines: explained_text(rt, &text)?.text,
+        lines: explained_text(rt, &bytes, &marks)?.text,
         of_text: true,
     })
 }
 
-/// Prints the listing of an image, or the lines of a text, with what is known at each instruction. After that, `TextFault::Explained` if
-/// the verifier refuses the image, and `TextFault::Unexplained` if the text is not assembled.
+/// Prints the listing of an image, or the lines of a text, with what is known at each instruction, and comments with the effects of each
+/// routine. After that, `TextFault::Explained` if the verifier refuses the image, and `TextFault::Unexplained` if the text is not assembled.
 pub fn explain<'a>(rt: &HostRuntime, path: &'a str) -> Result<(), TextFault<'a>> {
-    let bytes = if is_source(path) {
-        Runnable::read(rt, path)?.image
+    let unmarked = if is_source(path) {
+        Unmarked {
+            bytes: Runnable::read(rt, path)?.image,
+            marks: LineMarks::new(rt.alloc()),
+        }
     } else {
         read_completed(rt, path)?
     };
-    let explained = explained(rt, &bytes)?;
+    let explained = explained(rt, &unmarked)?;
     print_lines(rt, &explained.text)?;
+    print_lines(rt, &explained.effects)?;
     match explained.reject {
         Some(reject) => Err(TextFault::Explained(reject)),
         None => Ok(()),

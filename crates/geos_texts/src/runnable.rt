@@ -1,7 +1,7 @@
 //! What a path names is made an image, so that it can be checked and run.
 
-use crate::commands::{Made, begins_as_image, image_of};
-use crate::fault::{FaultyText, TextFault};
+use crate::commands::{Made, NotMade, begins_as_image, image_of};
+use crate::fault::{FaultyText, TextFault, by_marks};
 use crate::requests::MOST_READ;
 use crate::sources::{compiled, is_source};
 use geos_asm::completed;
@@ -10,22 +10,50 @@ use geos_image::ReadError;
 use geos_lints::warnings;
 use geos_shell::{Named, StreamFault, read};
 use geos_verify::{check, refused_places};
+use line_marks::LineMarks;
 use std::alloc::Global;
+
+/// An image, or a text in which line marks are comments.
+#[derive(Drop)]
+pub(crate) struct Unmarked {
+    pub(crate) bytes: Vec<u8>,
+    /// The line marks of the text.
+    pub(crate) marks: LineMarks,
+}
+
+/// Reads an image or a text.
+pub(crate) fn read_unmarked<'a>(
+    rt: &HostRuntime,
+    path: &'a str,
+) -> Result<Unmarked, StreamFault<'a>> {
+    let mut bytes = read(rt, path, MOST_READ)?;
+    if begins_as_image(&bytes) {
+        let marks = LineMarks::new(rt.alloc());
+        return Ok(Unmarked { bytes, marks });
+    }
+    match LineMarks::take(rt.alloc(), &mut bytes) {
+        Ok(marks) => Ok(Unmarked { bytes, marks }),
+        Err(_) => Err(StreamFault::Memory),
+    }
+}
 
 /// Reads an image or a text. A draft, in which `?` stands for the budget of a routine, comes with the least budgets.
 pub(crate) fn read_completed<'a>(
     rt: &HostRuntime,
     path: &'a str,
-) -> Result<Vec<u8>, StreamFault<'a>> {
-    let bytes = read(rt, path, MOST_READ)?;
+) -> Result<Unmarked, StreamFault<'a>> {
+    let Unmarked { bytes, marks } = read_unmarked(rt, path)?;
     if begins_as_image(&bytes) {
-        return Ok(bytes);
+        return Ok(Unmarked { bytes, marks });
     }
-    completed(rt.alloc(), bytes).map_err(|_| StreamFault::Memory)
+    match completed(rt.alloc(), bytes) {
+        Ok(bytes) => Ok(Unmarked { bytes, marks }),
+        Err(_) => Err(StreamFault::Memory),
+    }
 }
 
 /// An image that a path names, or that is made of the text there.
-#[derive(Debug, Drop)]
+#[derive(Drop)]
 pub struct Runnable<'a> {
     /// The path.
     pub path: &'a str,
@@ -33,6 +61,10 @@ pub struct Runnable<'a> {
     pub image: Vec<u8>,
     /// For each pc the number of its line, counted from 1, if the image was made of a text.
     pub lines: Option<Vec<u32>>,
+    /// The text that the image was made of, in which line marks are comments. Empty without one.
+    pub text: Vec<u8>,
+    /// The line marks of the text.
+    pub marks: LineMarks,
 }
 
 impl<'a> Runnable<'a> {
@@ -44,20 +76,40 @@ impl<'a> Runnable<'a> {
             let text = read(rt, path, MOST_READ)?;
             return compiled(rt.alloc(), path, &text);
         }
-        let bytes = read_completed(rt, path)?;
+        let Unmarked { bytes, marks } = read_completed(rt, path)?;
         match image_of(rt.alloc(), bytes) {
-            Ok(Made { image, lines }) => Ok(Runnable { path, image, lines }),
-            Err(not_made) => Err(TextFault::Assemble(FaultyText {
+            Ok(Made { image, lines, text }) => Ok(Runnable {
                 path,
-                text: not_made.text,
-                fault: not_made.fault,
-            })),
+                image,
+                lines,
+                text,
+                marks,
+            }),
+            Err(NotMade { text, fault }) => Err(TextFault::Assemble(FaultyText::new(
+                rt.alloc(),
+                path,
+                text,
+                marks,
+                fault,
+            ))),
         }
     }
 
     /// The line of each instruction in the text; none of an image without a text.
     pub fn lines(&self) -> Option<&[u32]> {
         self.lines.as_ref().map(|lines| lines.as_slice())
+    }
+
+    /// The line of each instruction in the file that line marks name; none if the text has no marks, or there is no text.
+    /// `StreamFault::Memory` if the allocator refuses memory.
+    pub fn marked_lines(&self, alloc: Global) -> Result<Option<Vec<u32>>, TextFault<'a>> {
+        match self.lines() {
+            Some(lines) if !self.marks.is_empty() => match self.marks.lines(alloc, lines) {
+                Ok(lines) => Ok(Some(lines)),
+                Err(_) => Err(TextFault::Stream(StreamFault::Memory)),
+            },
+            _ => Ok(None),
+        }
     }
 
     /// Why the verifier refuses the image, as diagnostics. Empty if it refuses nothing. `file` is the path as it is written in them.
@@ -92,7 +144,10 @@ impl<'a> Runnable<'a> {
         let path = Named(self.path);
         let file = format!(in alloc; "{path}")?;
         match check(geos_image::read(alloc, &self.image)?) {
-            Ok(checked) => Ok(warnings(alloc, &file, lines, checked.image())?),
+            Ok(checked) => {
+                let told = warnings(alloc, &file, lines, checked.image())?;
+                Ok(by_marks(alloc, &self.marks, &file, told))
+            }
             Err(_) => Ok(Vec::new(alloc)),
         }
     }

@@ -4,6 +4,7 @@ use crate::fault::TextFault;
 use crate::runnable::Runnable;
 use geos_image::write;
 use geos_shell::Named;
+use line_marks::LineMarks;
 use std::alloc::{AllocError, Global};
 use std::fmt::{self, Display, Formatter};
 use tkv_code::{Compiled, Place, compile, lines_of, place_of, put_sentence};
@@ -14,14 +15,14 @@ pub(crate) fn is_source(path: &str) -> bool {
 }
 
 /// A source that is not compiled, and why.
-#[derive(Debug, Drop)]
+#[derive(Drop)]
 pub struct FaultySource<'a> {
     /// The path that was read.
     pub path: &'a str,
     /// The line and the column of the fault.
     pub line: usize,
     pub column: usize,
-    /// The fault, as a sentence behind its line and column.
+    /// The fault, as a sentence after its line and column.
     pub sentence: Vec<u8>,
 }
 
@@ -63,6 +64,8 @@ fn runnable<'a>(
         path,
         image: write(alloc, compiled.checked.image())?,
         lines: Some(lines_of(alloc, text, &compiled.places)?),
+        text: Vec::new(alloc),
+        marks: LineMarks::new(alloc),
     })
 }
 
