@@ -1,6 +1,8 @@
-//! What words are answered that ask for nothing to be done.
+//! The answers to words that request no work.
 
+use crate::command_line::matches_of;
 use crate::faults::are_in_words;
+use crate::printable::Printable;
 use crate::streams::{StreamFault, print};
 use clap::Error;
 use clap::error::ErrorKind;
@@ -10,10 +12,10 @@ use std::process::ExitCode;
 /// The status where the words on the command line are wrong.
 const USAGE: u8 = 2;
 
-/// What words are answered that ask for nothing to be done.
+/// The answer to words that request no work.
 #[derive(Drop)]
 pub enum Answer {
-    /// The help, or the version, that they ask for.
+    /// The help, or the version, that they request.
     Text(String),
     /// What is wrong with them.
     Misuse(String),
@@ -50,9 +52,8 @@ impl Answer {
         }
     }
 
-    /// Prints it, on standard error where something is wrong with the words, and gives the program's
-    /// status. Nothing is said where standard error goes into a file that they name, or into the standard input. An error where the text
-    /// that was asked for is not printed, and for `Answer::Memory`.
+    /// Prints it, on standard error if something is wrong with the words, and returns the program's status. It prints nothing if standard error
+    /// goes into a file that they name, or into the standard input. An error if the requested text is not printed, and for `Answer::Memory`.
     pub fn print<'a>(
         &self,
         rt: &HostRuntime,
@@ -65,7 +66,7 @@ impl Answer {
             },
             Answer::Misuse(text) => {
                 if !are_in_words(rt, words) {
-                    // Where standard error fails, the status alone tells.
+                    // If standard error fails, only the status reports it.
                     let _ = eprint!(rt; "{text}");
                 }
                 Ok(ExitCode::from(USAGE))
@@ -78,5 +79,27 @@ impl Answer {
             }
             Answer::Memory => Err(StreamFault::Memory),
         }
+    }
+}
+
+/// The words with their control characters by their bytes.
+fn printable(alloc: Global, words: &[String]) -> Result<Vec<String>, AllocError> {
+    let mut shown = Vec::new(alloc);
+    for word in words {
+        let word = Printable(word.as_str());
+        shown.push(format!(in alloc; "{word}")?)?;
+    }
+    Ok(shown)
+}
+
+/// What words are answered in which `clap` finds no request: what it finds in them when their control characters are written by their
+/// bytes, so that none of these gets into a line of what it says.
+pub(crate) fn answer_to(alloc: Global, words: &[String], error: &Error) -> Answer {
+    match printable(alloc, words) {
+        Ok(shown) => match matches_of(alloc, &shown) {
+            Ok(_) => Answer::of(alloc, error),
+            Err(error) => Answer::of(alloc, &error),
+        },
+        Err(AllocError) => Answer::Memory,
     }
 }

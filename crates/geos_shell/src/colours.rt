@@ -16,12 +16,15 @@ fn is_set(rt: &HostRuntime, name: &str) -> bool {
     }
 }
 
-/// What precedes the message of a diagnostic, and the colour of this word, bold as compilers have it.
-const KINDS: [(&str, &str); 3] = [
-    ("error: ", "\x1b[1;31m"),
-    ("warning: ", "\x1b[1;35m"),
-    ("note: ", "\x1b[1;36m"),
-];
+/// The colour of the word that precedes the message of a diagnostic, bold as compilers have it; empty for any other word.
+fn colour_of(word: &str) -> &'static str {
+    match word {
+        "error" => "\x1b[1;31m",
+        "warning" => "\x1b[1;35m",
+        "note" => "\x1b[1;36m",
+        _ => "",
+    }
+}
 
 /// Diagnostics with the word `error`, `warning` or `note` of each line in its colour.
 pub(crate) fn coloured(alloc: Global, lines: &str) -> Result<String, AllocError> {
@@ -33,12 +36,11 @@ pub(crate) fn coloured(alloc: Global, lines: &str) -> Result<String, AllocError>
 }
 
 fn put_line(out: &mut String, line: &str) -> Result<(), AllocError> {
-    if let Some((place, rest)) = line.split_once(": ") {
-        for (word, colour) in KINDS {
-            if let Some(message) = rest.strip_prefix(word) {
-                return write!(out, "{place}: {colour}{word}\x1b[0m{message}\n");
-            }
-        }
+    let (place, rest) = line.split_once(": ").unwrap_or((line, ""));
+    let (word, message) = rest.split_once(": ").unwrap_or(("", rest));
+    let colour = colour_of(word);
+    if colour.is_empty() {
+        return write!(out, "{line}\n");
     }
-    write!(out, "{line}\n")
+    write!(out, "{place}: {colour}{word}: \x1b[0m{message}\n")
 }

@@ -1,20 +1,19 @@
 //! The command line, as `clap` takes it.
 
 use crate::answer::Answer;
-use crate::arguments::{DIAGNOSTICS, NO_WARNINGS};
-use crate::commands::all_commands;
-use crate::help::{ABOUT, SESSION, USAGES};
+use crate::arguments::{COMMANDS, DIAGNOSTICS, NO_WARNINGS};
+use crate::help::{ABOUT, END_OF_NOTE, NOTES, SESSION, USAGES};
 use clap::{Arg, ArgAction, ArgMatches, Command, Error};
 use std::alloc::{AllocError, Global};
 use std::{env, io};
 
-/// What stands before the first such byte, and what comes after it.
-fn parts_of(text: &str, at: char) -> (&str, &str) {
+/// The parts of a text before and after the first such byte.
+pub(crate) fn parts_of(text: &str, at: char) -> (&str, &str) {
     text.split_once(at).unwrap_or((text, ""))
 }
 
-/// A word, or words, that a command may be given, as `arguments` writes it. One of several that begins with `-` and is a number is one of
-/// them: what it is not is said by who reads it.
+/// A word, or words, that a command may be given, as `arguments` writes it. Several words may have a negative number among them: its reader
+/// reports whether that is wrong.
 fn word_of<'a>(alloc: Global, word: &'a str) -> Arg<'a> {
     if let Some(name) = word.strip_prefix("?") {
         Arg::new(alloc, name)
@@ -27,7 +26,7 @@ fn word_of<'a>(alloc: Global, word: &'a str) -> Arg<'a> {
     }
 }
 
-/// What a command may be given behind a name, or as a flag, as `arguments` writes it after `--`.
+/// What a command may be given after a name, or as a flag, as `arguments` writes it after `--`.
 fn option_of<'a>(alloc: Global, option: &'a str) -> Arg<'a> {
     let (name, value) = parts_of(option, '=');
     let (word, default) = parts_of(value, ':');
@@ -53,7 +52,7 @@ fn arg_of<'a>(alloc: Global, line: &'a str) -> Arg<'a> {
     arg.help(about)
 }
 
-/// Puts an item that was made behind the others. It is proved for items of any type, and not over a
+/// Puts an item that was made after the others. It is proved for items of any type, and not over a
 /// command's fifty fields.
 fn add<T: Drop>(items: &mut Vec<T>, made: Result<T, AllocError>) -> Result<(), AllocError> {
     items.push(made?)?;
@@ -84,8 +83,10 @@ fn command_of<'a>(alloc: Global, text: &'a str, more: &'a str) -> Result<Command
 /// All commands.
 fn commands<'a>(alloc: Global) -> Result<Vec<Command<'a>>, AllocError> {
     let mut commands = Vec::new(alloc);
-    for &more in all_commands() {
-        add(&mut commands, command_of(alloc, more.words(), more.text()))?;
+    let mut notes = NOTES.split(END_OF_NOTE);
+    for text in COMMANDS.split("\n\n") {
+        let note = notes.next().unwrap_or("");
+        add(&mut commands, command_of(alloc, text, note))?;
     }
     Ok(commands)
 }
@@ -109,16 +110,19 @@ fn program<'a>(alloc: Global) -> Result<Command<'a>, AllocError> {
         .subcommands(commands)
 }
 
-/// The words behind the program's name. An error is what they are answered where one of them is no text.
+/// The words after the program's name. An error is what they are answered where one of them is no text.
 pub fn words(rt: &HostRuntime) -> Result<Vec<String>, Answer> {
     match env::args(rt) {
-        Ok(args) => args.skip(1).collect(rt.alloc()).map_err(|_| Answer::Memory),
+        Ok(args) => match args.skip(1).collect(rt.alloc()) {
+            Ok(words) => Ok(words),
+            Err(AllocError) => Err(Answer::Memory),
+        },
         Err(error) if error.kind() == io::ErrorKind::InvalidData => Err(Answer::NotText),
         Err(_) => Err(Answer::Memory),
     }
 }
 
-/// What `clap` finds in the words behind the program's name.
+/// What `clap` finds in the words after the program's name.
 pub(crate) fn matches_of<'a>(alloc: Global, words: &'a [String]) -> Result<ArgMatches<'a>, Error> {
     match program(alloc) {
         Ok(program) => program.try_get_matches_from(words),

@@ -12,7 +12,7 @@ const LAST_STREAM: i32 = 2;
 const ROOT: &str = "/";
 
 /// Sees to it that no file which is opened from now on has the number of a standard stream: the numbers of those that are closed are taken
-/// by what can't be read and can't be written, so that a stream that is wanted fails as a closed one does. `StreamFault::Read` where
+/// by what can't be read and can't be written, so that a stream that is required fails as a closed one does. `StreamFault::Read` if
 /// the system does not tell.
 pub fn keep_stream_numbers<'a>(rt: &HostRuntime) -> Result<(), StreamFault<'a>> {
     // The system gives the lowest number that is free.

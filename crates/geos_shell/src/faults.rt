@@ -39,7 +39,7 @@ fn are_in_any(rt: &HostRuntime, file: Option<&str>) -> bool {
     }
 }
 
-/// Whether it goes into the standard input, or into a file that one of the words on the command line names, also behind an option's `=`.
+/// Whether it goes into the standard input, or into a file that one of the words on the command line names, also after an option's `=`.
 pub(crate) fn are_in_words(rt: &HostRuntime, words: &[String]) -> bool {
     for word in words {
         if is_in_word(rt, word.as_str()) {
@@ -125,7 +125,7 @@ impl FileRequest<'_> {
 
 impl Request<'_> {
     /// Whether standard error goes into a file that the request reads or works on, or into a VM file or an image that it is to
-    /// write: whatever is said there would come into what the file has.
+    /// write: a message would become part of the file.
     pub fn has_faults(&self, rt: &HostRuntime) -> bool {
         match self {
             Request::Routines(request) => request.has_faults(rt),

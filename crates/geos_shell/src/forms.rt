@@ -1,9 +1,9 @@
 //! How outputs are written, and what is committed at the end.
 
 use crate::given::Given;
-use crate::misuse::Misuse;
+use crate::misuse::{TWO_COMMITS, TWO_WRITINGS};
 
-/// How a word that is put out is written.
+/// How an output word is written.
 #[derive(Clone, Copy)]
 pub enum Digits {
     /// In decimal, on a line.
@@ -20,22 +20,25 @@ pub enum Digits {
 #[derive(Clone, Copy)]
 pub struct OutputForm {
     pub digits: Digits,
-    /// Whether each line stands behind its command.
+    /// Whether each line begins with its command.
     pub label: bool,
 }
 
 impl OutputForm {
-    /// What the words ask for: a word is written in one way alone.
+    /// The requested form: a word is written in only one way.
     pub(crate) fn of(given: &mut Given<'_, '_>) -> OutputForm {
-        let digits = match (given.flag("hex"), given.flag("signed"), given.flag("text")) {
-            (false, false, false) => Digits::Decimal,
-            (true, false, false) => Digits::Hex,
-            (false, true, false) => Digits::Signed,
-            (false, false, true) => Digits::Text,
-            _ => {
-                given.refuse_if(true, Misuse::TwoWritings);
-                Digits::Decimal
-            }
+        let hex = given.flag("hex");
+        let signed = given.flag("signed");
+        let text = given.flag("text");
+        given.refuse_if(hex && (signed || text) || signed && text, TWO_WRITINGS);
+        let digits = if hex {
+            Digits::Hex
+        } else if signed {
+            Digits::Signed
+        } else if text {
+            Digits::Text
+        } else {
+            Digits::Decimal
         };
         OutputForm {
             digits,
@@ -59,15 +62,17 @@ pub enum EndCommit {
 }
 
 impl EndCommit {
-    /// The commit that the words ask for, if they ask for one.
+    /// The requested commit, if there is one.
     pub(crate) fn of(given: &mut Given<'_, '_>) -> Option<EndCommit> {
-        match (given.flag("update"), given.flag("save")) {
-            (true, false) => Some(EndCommit::Update),
-            (false, true) => Some(EndCommit::Save),
-            (both, _) => {
-                given.refuse_if(both, Misuse::TwoCommits);
-                None
-            }
+        let update = given.flag("update");
+        let save = given.flag("save");
+        given.refuse_if(update && save, TWO_COMMITS);
+        if update {
+            Some(EndCommit::Update)
+        } else if save {
+            Some(EndCommit::Save)
+        } else {
+            None
         }
     }
 }

@@ -1,4 +1,4 @@
-//! The words behind a command's name, as its request is made of them.
+//! The words after a command's name, as its request is made of them.
 
 ghost use Rattle.std.specs.Prelude.{◌≢◌};
 ghost use Rattle.geos_shell.specs.Limits.{IsWithin};
@@ -8,7 +8,7 @@ use crate::numbers::{Number, number_in};
 use clap::ArgMatches;
 use std::alloc::Global;
 
-/// The words behind a command's name. It keeps the first thing that is wrong with them, which who reads them asks for at the end.
+/// The words after a command's name. It stores the first misuse, which the reader of the words checks at the end.
 #[derive(Drop)]
 pub(crate) struct Given<'m, 'a> {
     words: &'m ArgMatches<'a>,
@@ -28,14 +28,14 @@ impl<'m, 'a> Given<'m, 'a> {
         self.misuse
     }
 
-    /// Keeps what is wrong if that is so, unless something was wrong before.
+    /// Stores a misuse if `is_wrong`, unless there was one before.
     pub(crate) fn refuse_if(&mut self, is_wrong: bool, misuse: Misuse) {
         if is_wrong && self.misuse.is_none() {
             self.misuse = Some(misuse);
         }
     }
 
-    /// A word that the command wants, so it is there.
+    /// A word that the command requires, so it exists.
     pub(crate) fn word(&self, name: &str) -> &'a str {
         self.words.get_str(name).unwrap_or("")
     }

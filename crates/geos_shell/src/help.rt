@@ -5,7 +5,7 @@ pub(crate) const ABOUT: &str = "Checks routines, which are written as text, and 
 
 pub(crate) const USAGES: &str = "\
 geos call IN [NAME [N..]] [--file FILE [--update | --save]] [--grant EFFECTS] [--most-steps N] [--region N] [--strict] [FORM | --json]
-       geos trace IN NAME [N..] [--steps N] [--only ROUTINE | --count | --html OUT] [--file FILE] [--region N] [--json]
+       geos trace IN NAME [N..] [--steps N] [--only ROUTINE | --count | --html OUT] [--file FILE] [--grant EFFECTS] [--most-steps N] [--region N] [--json]
        geos asm IN OUT [--all-rows] [--json]
        geos budget TEXT [OUT | --in-place]
        geos fmt TEXT [OUT | --in-place]
@@ -72,8 +72,11 @@ line on standard error names; 2 if the words on the command line are wrong. On a
 --diagnostics, more lines follow: `FILE:LINE:COLUMN: error: ..`, `warning: ..` and `FILE: note: ..`.
 docs/FORMATS.md lists the faults, and describes the digits of an image.";
 
-/// How one routine, or a script, is run.
-const CALLED: &str = "\
+/// What ends each of `NOTES` but the last.
+pub(crate) const END_OF_NOTE: &str = "\n====\n";
+
+/// What the help of each command says after its arguments, in the order of `COMMANDS`.
+pub(crate) const NOTES: &str = "\
 IN is an image if it begins as one does, and otherwise a text. Nothing runs unless the text has no fault and
 the verifier accepts the image. `geos help asm` lists the faults of a text, `geos help check` the rules, and
 `geos explain IN` says more. A budget may be a `?`, which stands for the least one.
@@ -100,10 +103,8 @@ Example:
   printf 'call add 2 3\\ncall add 4 5\\n' | geos call add.asm
   geos new counter.vm
   geos call examples/counter.asm --file counter.vm < examples/counter.script
-  geos call examples/lend.asm --file lent.vm peek @1      if lent.vm has a block 1";
-
-/// What is printed of the steps of a run.
-const TRACED: &str = "\
+  geos call examples/lend.asm --file lent.vm peek @1      if lent.vm has a block 1
+====
 The routine runs as by `geos call`, also on blocks of FILE that it borrows, and its faults are the same. If
 a block cannot be lent, only `refused N` is printed. Each step prints a line: the number of the line in the
 text, or the pc if IN is an image; the instruction; and after `;` what the step wrote:
@@ -125,10 +126,8 @@ step, with memory. It shows 10,000 steps at most.
 Example:
   geos trace add.asm add 2 3        if add.asm has the text of `geos help`
   geos trace examples/lend.asm --file lent.vm peek @1
-  geos trace examples/heap.asm main --html heap.html";
-
-/// Why a text is not assembled.
-const FAULTS: &str = "\
+  geos trace examples/heap.asm main --html heap.html
+====
 If the file OUT exists, it is replaced; after a fault it is as it was. The image has version 2: rows only
 where a routine begins, at labels that are used, and after JMP and RET. A row says what is known at an
 instruction; the verifier computes the others.
@@ -144,10 +143,8 @@ The first fault of the text is `line N: why K`, the lowest K of the line. `geos 
 `no rows: line N` is about the routine that begins there: slots hold one thing on one way to an instruction
 and another on another way, or no number of steps is enough. No number is enough if LOOP does not count a
 loop, if its counter is set or touched within the loop, or if the steps pass 4,294,967,295.
-`geos explain` says which.";
-
-/// How a text gets its budgets.
-const BUDGETED: &str = "\
+`geos explain` says which.
+====
 Each number after `budget`, or a `?` in its place, becomes the least budget that is found, so that a caller
 pays for what the routines that it calls take now. All other bytes stay. The faults are those of `asm`.
 No budget is enough if a CALL names a routine that does not stand before its own, or if nothing sets the
@@ -156,53 +153,18 @@ least budgets, nothing is written, and the first refusal is the fault. OUT is no
 the new text replaces the old one in TEXT.
 
 Example:
-  geos budget draft.asm add.asm && geos call add.asm add 2 3";
-
-/// How a text is formatted.
-const FORMATTED: &str = "\
+  geos budget draft.asm add.asm && geos call add.asm add 2 3
+====
 Labels and lines `routine` begin at the start of a line, instructions at column 8, and words have one space
 between them. A comment stays at its column if the words before it leave room. The image of the text stays
 the same, and a text that is formatted again does not change. A text with faulty lines can be formatted too.
 OUT is not TEXT; with --in-place the new text replaces the old one in TEXT.
 
 Example:
-  geos fmt add.asm --in-place";
+  geos fmt add.asm --in-place
+====
 
-/// How bytes get into a VM file.
-const PUT: &str = "\
-The chunk gets as many bytes as there are, or, from AT on, at least as many as it needs, with zeros up to
-AT. Then the bytes are written, and the file is committed, as by `update`. With --item, H is a group and
-C an item of it. The chunk exists already: a routine makes it with LALLOC or INEW, and `geos dump` lists
-the handles.
-`refused N` says that a step was refused, N as in docs/INSTRUCTIONS.md: 1 no such block, 2 no such chunk,
-4 no room in the region, 6 too long, 11 the disk fails, 15 a group without --item. The file is as it was
-then; only after 11 it may be as it would have been.
-
-Example:
-  geos put notes.vm 1 16 < notes.txt
-  geos get notes.vm 1 16";
-
-/// How bytes get out of a VM file.
-const GOT: &str = "\
-With --item, H is a group and C an item of it. The bytes are those that the file has now; nothing is
-written to it. `refused N` means the same as for `put`.";
-
-/// What is said of an image or a text.
-const EXPLAINED: &str = "\
-IMAGE is an image if it begins as one does, and otherwise a text. Each line of a text is printed with its
-number; after an instruction come what is known before it runs, and how many steps are left then at most. A
-budget may be a `?`. A VM file is named as what it is. If lines of a text have faults, only these are
-printed, each with the word that is wrong and what is expected. Of an image, each instruction is printed with
-its routine and pc.
-Where a rule refuses, a line says why, and what to do. For a stale pointer it says from where it is known,
-from where it is not, and what has moved there. After `no rows: line N` a line says where slots differ, or
-which loop is not paid for.
-With --script, each line of SCRIPT that is bad before anything runs is printed, by the rules of `run`, or
-with --vars by those of `run --vars` and `call`: the word that is wrong, and what is expected. At most 1,000
-are printed, and how many more there are. Nothing else is printed, and nothing runs.";
-
-/// Why an image may not run.
-const RULES: &str = "\
+====
 IMAGE is an image if it begins as one does, and otherwise a text, whose faults are those of `geos asm`. `bad
 image at N` names the first byte that no image has there. `geos explain` says what is wrong with either.
 `rejected at N by VK` names the first instruction, counted from 0, that is refused, and the lowest rule that
@@ -221,18 +183,26 @@ refuses it. `geos explain` says more, and `geos help VK` has an example. The rul
   V11  a routine returns with what its exit row says
   V12  what is known at an instruction holds on each way to it
   V13  each step is paid for: LOOP counts a loop, and the budget of a routine that is called pays for the call
-  V14  the steps of a routine are within its budget";
-
-/// How a VM file is made.
-const MADE: &str = "\
+  V14  the steps of a routine are within its budget
+====
+IMAGE is an image if it begins as one does, and otherwise a text. Each line of a text is printed with its
+number; after an instruction come what is known before it runs, and how many steps are left then at most. A
+budget may be a `?`. A VM file is named as what it is. If lines of a text have faults, only these are
+printed, each with the word that is wrong and what is expected. Of an image, each instruction is printed with
+its routine and pc.
+Where a rule refuses, a line says why, and what to do. For a stale pointer it says from where it is known,
+from where it is not, and what has moved there. After `no rows: line N` a line says where slots differ, or
+which loop is not paid for.
+With --script, each line of SCRIPT that is bad before anything runs is printed, by the rules of `run`, or
+with --vars by those of `run --vars` and `call`: the word that is wrong, and what is expected. At most 1,000
+are printed, and how many more there are. Nothing else is printed, and nothing runs.
+====
 The file is twice the size of an area, and 1,024 bytes more; if the disk can, it gives no room to what is not
 written. An area has room for all blocks of the file twice: as they are, and as they were saved last. If
 they are longer than an area, `update` and `save` are refused 6 and change nothing.
 `cannot write FILE` says that something of that name exists, which stays as it is, or that the file cannot
-be made.";
-
-/// How a script runs on a VM file.
-const RUNS: &str = "\
+be made.
+====
 IMAGE is an image if it begins as one does, and otherwise a text, which is assembled in memory; so a VM file
 there is `line 1: why 1`.
 SCRIPT has a command a line, as a session has after its image:
@@ -264,60 +234,30 @@ SCRIPT is still being read, so SCRIPT may be `-`, after a pipe from a `dump` of 
 Example:
   geos new notes.vm
   geos run notes.asm notes.vm notes.script
-  geos dump notes.vm";
+  geos dump notes.vm
+====
+The chunk gets as many bytes as there are, or, from AT on, at least as many as it needs, with zeros up to
+AT. Then the bytes are written, and the file is committed, as by `update`. With --item, H is a group and
+C an item of it. The chunk exists already: a routine makes it with LALLOC or INEW, and `geos dump` lists
+the handles.
+`refused N` says that a step was refused, N as in docs/INSTRUCTIONS.md: 1 no such block, 2 no such chunk,
+4 no room in the region, 6 too long, 11 the disk fails, 15 a group without --item. The file is as it was
+then; only after 11 it may be as it would have been.
 
-/// How a VM file is printed.
-const DUMPED: &str = "\
+Example:
+  geos put notes.vm 1 16 < notes.txt
+  geos get notes.vm 1 16
+====
+With --item, H is a group and C an item of it. The bytes are those that the file has now; nothing is
+written to it. `refused N` means the same as for `put`.
+====
 What the file has now, `current`, and then what it saved last, `saved`:
   current map M item G I   the map block, the group of the map item and its chunk; 0 is none
   H uid U size S chunks C:N ..   a block: its handle, user ID and bytes, and handle and length of each chunk
 A group has the user ID 65280. A file that may only be read is read; nothing is written.
-`bad file at N` names the first byte, from the start of the file, that is not as it must be.";
-
-/// How a VM file is drawn.
-const MAPPED: &str = "\
+`bad file at N` names the first byte, from the start of the file, that is not as it must be.
+====
 The first bar is the area that is read, with all blocks as they are and as they were saved last. Below it,
 each block has a bar whose length is to the longest bar as the block is to the longest block: `#` is in
 use, `.` is free. `used` counts bytes, also those of the heap's header and table. A group has `group` in
 place of its user ID.";
-
-/// A command. Its texts stand in functions: a proof goes over each byte of the texts of a table.
-#[derive(Clone, Copy)]
-pub(crate) enum More {
-    Called,
-    Traced,
-    Assembled,
-    Budgeted,
-    Formatted,
-    Listed,
-    Checked,
-    Explained,
-    Made,
-    Ran,
-    Put,
-    Got,
-    Dumped,
-    Mapped,
-}
-
-impl More {
-    /// What there is to add.
-    pub(crate) fn text<'a>(self) -> &'a str {
-        match self {
-            More::Listed => "",
-            More::Called => CALLED,
-            More::Traced => TRACED,
-            More::Assembled => FAULTS,
-            More::Budgeted => BUDGETED,
-            More::Formatted => FORMATTED,
-            More::Explained => EXPLAINED,
-            More::Checked => RULES,
-            More::Made => MADE,
-            More::Ran => RUNS,
-            More::Put => PUT,
-            More::Got => GOT,
-            More::Dumped => DUMPED,
-            More::Mapped => MAPPED,
-        }
-    }
-}

@@ -10,7 +10,7 @@ const VM_FILE: [u8; 4] = *b"GVM1";
 /// What an image begins with, of either version.
 const IMAGE: [u8; 4] = *b"GRT1";
 
-/// What a file begins with; `None` where it is shorter. An error where it can't be read: else what a user saved in it might be lost.
+/// What a file begins with; `None` if it is shorter. An error where it can't be read: else what a user saved in it might be lost.
 fn first_of(rt: &HostRuntime, path: &str) -> io::Result<Option<[u8; 4]>> {
     // One without a byte need not be readable.
     if fs::metadata(rt, path)?.len() == 0 {

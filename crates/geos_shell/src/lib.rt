@@ -8,7 +8,6 @@ mod answer;
 mod arguments;
 mod colours;
 mod command_line;
-mod commands;
 mod descriptors;
 mod faults;
 mod file_id;

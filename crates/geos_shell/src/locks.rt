@@ -27,8 +27,8 @@ pub struct Lockable<'a> {
     file: File,
 }
 
-/// A lock on a file, which goes when it and the other handles of the same open file are dropped. Only programs that ask for one are kept
-/// off.
+/// A lock on a file, which is released when it and the other handles of the same open file are dropped. It excludes only programs that
+/// request a lock.
 #[derive(Drop)]
 pub struct FileLock<'a> {
     path: &'a str,
@@ -43,7 +43,7 @@ fn is_file(rt: &HostRuntime, path: &str) -> io::Result<bool> {
     Ok(fs::metadata(rt, path)?.is_file())
 }
 
-/// Opens the file: to change it where nobody else may have it, else to read it.
+/// Opens the file: to change it where nobody else may have it, otherwise to read it.
 fn opened(rt: &HostRuntime, path: &str, sharing: Sharing) -> io::Result<File> {
     if !is_file(rt, path)? {
         return Err(io::Error::from(ErrorKind::InvalidInput));
@@ -55,10 +55,10 @@ fn opened(rt: &HostRuntime, path: &str, sharing: Sharing) -> io::Result<File> {
 
 /// Whether the path leads to the open file, as far as the system says so: another program may have given the path to another file.
 fn leads_to(rt: &HostRuntime, path: &str, file: &File) -> bool {
-    match (fs::metadata(rt, path), file.metadata()) {
-        (Ok(there), Ok(open)) => FileId::of(&there) == FileId::of(&open),
-        _ => false,
-    }
+    let Ok(there) = fs::metadata(rt, path) else {
+        return false;
+    };
+    matches!(file.metadata(), Ok(open) if FileId::of(&there) == FileId::of(&open))
 }
 
 /// Whether the standard output goes into the open file.
@@ -66,10 +66,10 @@ fn is_output(rt: &HostRuntime, file: &File) -> bool {
     matches!(file.metadata(), Ok(found) if goes_into(rt, FileId::of(&found)))
 }
 
-/// How long the lock is asked for before the user is told that it is waited for, in milliseconds.
+/// How long the program tries to take the lock before it reports that it waits, in milliseconds.
 const SOON: u64 = 1_000;
 
-/// How long after one another it is asked for, in milliseconds.
+/// The pause between two tries, in milliseconds.
 const PAUSE: u64 = 10;
 
 /// Takes the lock if no other program has it.
@@ -124,7 +124,7 @@ fn fault<'a>(path: &'a str, error: &io::Error) -> StreamFault<'a> {
 impl<'a> Lockable<'a> {
     /// Opens the file with the path, without its lock: to work on it alone, or to read it as others may meanwhile. `StreamFault::Read`
     /// where there is no such file, or where it is a folder, a pipe, a device or a socket, or may not be read, or changed where it is
-    /// to work on it alone; `StreamFault::Write` of `-` where the standard output goes into it.
+    /// to work on it alone; `StreamFault::Write` of `-` if the standard output goes into it.
     pub fn open(
         rt: &HostRuntime,
         path: &'a str,
@@ -158,7 +158,8 @@ impl<'a> Lockable<'a> {
     /// another file then, as after a rename, that one is opened and waited for in its place, at most three times. `StreamFault::Read`
     /// if the system has no locks for it, or if the path leads to another file each time; and the faults of `open`.
     pub fn wait(self, rt: &HostRuntime) -> Result<FileLock<'a>, StreamFault<'a>> {
-        let (path, sharing) = (self.path, self.sharing);
+        let path = self.path;
+        let sharing = self.sharing;
         let mut lockable = self;
         for _ in 0..=MOST_REPLACED {
             let lock = lockable.locked(rt)?;

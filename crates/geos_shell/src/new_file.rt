@@ -5,7 +5,7 @@ use crate::streams::{StreamFault, not_written};
 use std::fs::{self, File};
 use std::io::{self, ErrorKind};
 
-/// The permissions of a new file, but for those that the user's mask takes away.
+/// The permissions of a new file, before the user's mask.
 const ANY: u32 = 0o666;
 
 /// A file that is being made. Nothing has its path until it is whole; until then it is a part, and locked, also when it has got the path.
@@ -25,7 +25,7 @@ fn begun(rt: &HostRuntime, path: &str) -> io::Result<Part> {
 }
 
 impl<'a> NewFile<'a> {
-    /// Begins to make the file with the path, which is empty so far. `StreamFault::Write` where something has that path, also a link that
+    /// Begins to make the file with the path, which is empty so far. `StreamFault::Write` if something has that path, also a link that
     /// leads nowhere, or where no file can be made.
     pub fn begin(rt: &HostRuntime, path: &'a str) -> Result<NewFile<'a>, StreamFault<'a>> {
         match begun(rt, path) {
@@ -42,7 +42,7 @@ impl<'a> NewFile<'a> {
         }
     }
 
-    /// Gives the file its path, which lasts then. `StreamFault::Write` where something has got that path meanwhile, or where the system
+    /// Gives the file its path, which lasts then. `StreamFault::Write` if something has got that path meanwhile, or where the system
     /// refuses: then nothing is left. `StreamFault::Left` if the file has its path, but its part can't be removed.
     pub fn finish(self, rt: &HostRuntime) -> Result<(), StreamFault<'a>> {
         let NewFile { path, part } = self;

@@ -1,8 +1,8 @@
 //! The numbers that commands may be given.
 
-use crate::misuse::Misuse;
+use crate::misuse::{Misuse, WRONG_AREA, WRONG_MOST_STEPS, WRONG_REGION, WRONG_STEPS, WRONG_WIDTH};
 
-/// A number behind `--name`, and its limits. What it is stands in the table of commands.
+/// A number after `--name`, and its limits. The table of commands describes it.
 #[derive(Clone, Copy)]
 pub(crate) struct Number {
     pub(crate) name: &'static str,
@@ -20,7 +20,7 @@ pub(crate) const AREA: Number = Number {
     least: 512,
     most: 16_777_216,
     unit: 512,
-    misuse: Misuse::WrongArea,
+    misuse: WRONG_AREA,
 };
 
 /// The bytes of the region that blocks in memory lie in.
@@ -29,7 +29,7 @@ pub(crate) const REGION: Number = Number {
     least: 65_536,
     most: 16_777_216,
     unit: 1,
-    misuse: Misuse::WrongRegion,
+    misuse: WRONG_REGION,
 };
 
 /// The steps that are printed of a run.
@@ -38,7 +38,7 @@ pub(crate) const STEPS: Number = Number {
     least: 0,
     most: 1_000_000,
     unit: 1,
-    misuse: Misuse::WrongSteps,
+    misuse: WRONG_STEPS,
 };
 
 /// The highest budget of routines that are run.
@@ -47,7 +47,7 @@ pub(crate) const MOST_STEPS: Number = Number {
     least: 0,
     most: 4_294_967_295,
     unit: 1,
-    misuse: Misuse::WrongMostSteps,
+    misuse: WRONG_MOST_STEPS,
 };
 
 /// The columns of a drawing.
@@ -56,10 +56,10 @@ pub(crate) const WIDTH: Number = Number {
     least: 60,
     most: 1_000,
     unit: 1,
-    misuse: Misuse::WrongWidth,
+    misuse: WRONG_WIDTH,
 };
 
-/// The number that a text has in digits alone, if it is one of 32 bits.
+/// The number of a text of digits only, if it has 32 bits.
 pub(crate) fn number_in(text: &str) -> Option<u32> {
     if text.starts_with('+') {
         return None;

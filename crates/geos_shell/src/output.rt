@@ -27,7 +27,7 @@ pub(crate) fn faults_go_into(rt: &HostRuntime, file: FileId) -> bool {
 }
 
 /// Sees to it that what is printed does not come into what is read of the file with the path, or of the standard input where it is `-`.
-/// `StreamFault::Write` of `-` where both are one file.
+/// `StreamFault::Write` of `-` if both are one file.
 pub fn keep_from_output<'a>(rt: &HostRuntime, path: &str) -> Result<(), StreamFault<'a>> {
     match regular_at(rt, name_of(path)) {
         Some(file) if goes_into(rt, file) => Err(StreamFault::Write(STANDARD, Reason::InUse)),
@@ -36,7 +36,7 @@ pub fn keep_from_output<'a>(rt: &HostRuntime, path: &str) -> Result<(), StreamFa
 }
 
 /// Sees to it that an image, which is made of what `source` names, does not come into that or into a VM file, where it goes to the
-/// standard output, so where the path is `-`. `StreamFault::Write` where it would.
+/// standard output, so where the path is `-`. `StreamFault::Write` if it would.
 pub(crate) fn keep_from_image<'a>(
     rt: &HostRuntime,
     path: &'a str,

@@ -15,10 +15,10 @@ const MOST_NAMES: u32 = 100;
 /// worked in one folder at once.
 const LOOKED_THROUGH: u32 = 16;
 
-/// How often the lock on a part that was just made is asked for.
+/// The most tries to take the lock on a new part.
 const MOST_TRIES: u32 = 5;
 
-/// How long after one another it is asked for, in milliseconds.
+/// The pause between two tries, in milliseconds.
 const PAUSE: u64 = 1;
 
 /// A file that is being made in the folder of the one that it becomes, under a name that no other program uses. It is locked while it
@@ -30,7 +30,7 @@ pub(crate) struct Part {
     folder: File,
 }
 
-/// The folder that a path stands in.
+/// The folder of a path.
 fn folder_of(path: &str) -> &str {
     match path.rsplit_once('/') {
         Some(("", _)) => "/",
@@ -46,7 +46,8 @@ fn part_name(alloc: Global, folder: &str, n: u32) -> Result<String, AllocError> 
 
 /// Whether a name, which may be that of a link, is one of the open file.
 fn is_named(rt: &HostRuntime, name: &str, file: &File) -> io::Result<bool> {
-    let (open, named) = (file.metadata()?, fs::symlink_metadata(rt, name)?);
+    let open = file.metadata()?;
+    let named = fs::symlink_metadata(rt, name)?;
     Ok(FileId::of(&open) == FileId::of(&named))
 }
 
@@ -157,7 +158,7 @@ fn rename_to_free(rt: &HostRuntime, part: &str, path: &str) -> io::Result<()> {
 
 impl Part {
     /// Makes an empty part in the folder of the path, with the permissions but those that the user's mask takes away. What stopped runs
-    /// have left there is removed first, but for one file that is to be kept; what can't be removed is left. An error also if the
+    /// have left there is removed first, except for one file that is to be kept; what can't be removed is left. An error also if the
     /// folder can't be read, since it can't be synced then.
     pub(crate) fn beside(
         rt: &HostRuntime,
@@ -207,7 +208,7 @@ impl Part {
         Ok(self.folder.sync_all()?)
     }
 
-    /// Removes it, since the system refused something; and says so.
+    /// Removes it, since the system refused something, and returns the fault.
     pub(crate) fn failed(self, rt: &HostRuntime, error: io::Error) -> PartFault {
         self.discard(rt);
         PartFault::System(error)
@@ -215,7 +216,7 @@ impl Part {
 
     /// Removes it: it does not become a file.
     pub(crate) fn discard(self, rt: &HostRuntime) {
-        // Where it can't be removed, the next run does so.
+        // If it can't be removed, the next run removes it.
         let _ = fs::remove_file(rt, self.name.as_str());
     }
 }

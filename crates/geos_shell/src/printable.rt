@@ -8,16 +8,6 @@ use std::fmt::{self, Display, Formatter};
 #[derive(Clone, Copy)]
 pub(crate) struct Printable<'a>(pub(crate) &'a str);
 
-/// Whether a text has control characters.
-pub(crate) fn has_control(text: &str) -> bool {
-    for character in text.chars() {
-        if character.is_control() {
-            return true;
-        }
-    }
-    false
-}
-
 /// Writes the bytes of a control character. One past ASCII is U+0080 to U+009F, which has a byte 0xc2 before that of its number.
 fn write_bytes<W: fmt::Write>(f: &mut Formatter<W>, control: char) -> fmt::Result {
     let number = u32::from(control);
@@ -41,7 +31,7 @@ impl Display for Printable<'_> {
     }
 }
 
-/// A path, a name or a number of the user's in a line of the program's: written as `Printable` is, but for an empty one, which is `''`.
+/// A path, a name or a number of the user's in a line of the program's: written as `Printable` is, except for an empty one, which is `''`.
 #[derive(Clone, Copy)]
 pub struct Named<'a>(pub &'a str);
 

@@ -22,7 +22,7 @@ fn is_of_no_link(error: &io::Error) -> bool {
 /// does not say so: else a link might be replaced in the place of its file.
 fn behind_links(rt: &HostRuntime, path: &str) -> io::Result<PathBuf> {
     let mut path = PathBuf::from_str(rt.alloc(), path)?;
-    // After the last link it is asked once more, which tells that no link is there.
+    // After the last link one more call confirms that there is no further link.
     for _ in 0..=MOST_LINKS {
         match fs::read_link(rt, path.as_path()) {
             Ok(target) => {
@@ -69,7 +69,7 @@ fn found(rt: &HostRuntime, path: &str) -> io::Result<Option<Attributes>> {
     }
 }
 
-/// The permissions of a new file, but for those that the user's mask takes away.
+/// The permissions of a new file, before the user's mask.
 const ANY: u32 = 0o666;
 
 /// The permissions without those that go with who a file belongs to: to run as its owner or its group, and the sticky bit.
@@ -78,7 +78,7 @@ const WITHOUT_RIGHTS_OF_OWNER: u32 = 0o777;
 /// The permissions of all but the group.
 const WITHOUT_GROUP: u32 = 0o707;
 
-/// The permissions of the owner alone.
+/// The permissions of only the owner.
 const OWNER: u32 = 0o600;
 
 /// What a file has of the one that it replaces.
@@ -86,9 +86,9 @@ const OWNER: u32 = 0o600;
 enum Taken {
     /// Owner and group.
     Both,
-    /// The group alone.
+    /// Only the group.
     Group,
-    /// Neither, or the owner alone.
+    /// Neither, or only the owner.
     NoGroup,
 }
 
@@ -144,7 +144,10 @@ fn put_whole(
     source: &str,
 ) -> Result<(), PartFault> {
     // Nobody gets a right to it that he has not to the one that is there.
-    let mode = there.map_or(ANY, |there| there.mode & OWNER);
+    let mode = match there {
+        Some(there) => there.mode & OWNER,
+        None => ANY,
+    };
     let part = Part::beside(rt, path.as_str(), mode, regular_at(rt, source))?;
     match fill(&part.file, there, bytes) {
         Ok(()) if there.is_some() => part.replace(rt, path.as_str()),

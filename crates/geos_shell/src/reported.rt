@@ -6,7 +6,7 @@ use std::alloc::Global;
 use std::fmt::Display;
 
 /// A request was not carried out, and standard error says why.
-#[derive(Clone, Copy, Debug)]
+#[derive(Clone, Copy)]
 pub struct Reported;
 
 /// A fault of which there may be more to say than its line.
@@ -21,7 +21,7 @@ pub fn report<F: Display>(rt: &HostRuntime, fault: &F) -> Reported {
     Reported
 }
 
-/// What was done. A fault is reported instead, with its diagnostics if they are wanted.
+/// What was done. A fault is reported instead, with its diagnostics if they are required.
 pub fn done_or_reported<T: Drop, F: Diagnosed + Display + Drop>(
     rt: &HostRuntime,
     reports: Reports,

@@ -1,22 +1,25 @@
-//! What the words on the command line ask for.
+//! The request that the words on the command line make.
 
 ghost use Rattle.std.specs.Prelude.{IfOk};
 ghost use Rattle.geos_shell.specs.Limits.{KeepsLimits, RunsWithinLimits, WorksWithinLimits};
 
-use crate::answer::Answer;
-use crate::command_line::matches_of;
+use crate::answer::{Answer, answer_to};
+use crate::command_line::{matches_of, parts_of};
 use crate::forms::{EndCommit, OutputForm};
 use crate::given::Given;
-use crate::misuse::{Misuse, Other};
+use crate::misuse::{
+    JSON_OR_DIAGNOSTICS, JSON_OR_FORM, JSON_OR_OUTPUT, JSON_OR_PAGE, JSON_OR_SCRIPT, Misuse,
+    NAMES_OF_NO_SCRIPT, NO_CHUNK, NO_FILE, NO_HANDLE, NO_NAME, NO_OFFSET, NOT_IN_PLACE, ONTO_IN,
+    ONTO_TEXT, PAGE_OF_PART, TWO_OF_ONE_STREAM,
+};
 use crate::numbers::{AREA, REGION, STEPS, WIDTH};
-use crate::printable::{Printable, has_control};
 use crate::run_limits::RunLimits;
 use crate::streams::{STANDARD, is_stream};
-use clap::{ArgMatches, Error};
-use std::alloc::{AllocError, Global};
+use clap::ArgMatches;
+use std::alloc::Global;
 use std::io::IsTerminal;
 
-/// A call of the routine with the name, on these numbers, and on the blocks behind them.
+/// A call of the routine with the name, on these numbers, and on the blocks after them.
 #[derive(Drop)]
 pub struct CallWords<'a> {
     pub name: &'a str,
@@ -156,7 +159,7 @@ pub enum FileRequest<'a> {
     },
 }
 
-/// What the words on the command line ask for. A path of `-` is a standard stream, but that of a VM
+/// The request that the words on the command line make. A path of `-` is a standard stream, except that of a VM
 /// file.
 #[derive(Drop)]
 pub enum Request<'a> {
@@ -205,7 +208,7 @@ impl Asked<'_> {
     }
 }
 
-/// The call that is asked for, if a routine is named.
+/// The requested call, if a routine is named.
 fn call_words<'a>(alloc: Global, given: &mut Given<'_, 'a>) -> Option<CallWords<'a>> {
     match given.setting("NAME") {
         Some(name) => Some(CallWords {
@@ -216,17 +219,17 @@ fn call_words<'a>(alloc: Global, given: &mut Given<'_, 'a>) -> Option<CallWords<
     }
 }
 
-/// What a `call` asks for. A wrong number is said first.
+/// The request of a `call`. A wrong number is reported first.
 fn call_of<'a>(alloc: Global, given: &mut Given<'_, 'a>) -> RoutineRequest<'a>
     ensures { RunsWithinLimits result }
 {
     let region = given.number(&REGION);
     let image = given.word("IN");
     let call = call_words(alloc, given);
-    given.refuse_if(call.is_none() && is_stream(image), Misuse::NoName);
+    given.refuse_if(call.is_none() && is_stream(image), NO_NAME);
     let file = given.setting("file");
     let commit = EndCommit::of(given);
-    given.refuse_if(commit.is_some() && file.is_none(), Misuse::NoFile);
+    given.refuse_if(commit.is_some() && file.is_none(), NO_FILE);
     RoutineRequest::Call {
         image,
         call,
@@ -238,7 +241,7 @@ fn call_of<'a>(alloc: Global, given: &mut Given<'_, 'a>) -> RoutineRequest<'a>
     }
 }
 
-/// What a `trace` asks for. A wrong number is said first.
+/// The request of a `trace`. A wrong number is reported first.
 fn trace_of<'a>(alloc: Global, given: &mut Given<'_, 'a>) -> RoutineRequest<'a>
     ensures { RunsWithinLimits result }
 {
@@ -248,12 +251,10 @@ fn trace_of<'a>(alloc: Global, given: &mut Given<'_, 'a>) -> RoutineRequest<'a>
         name: given.word("NAME"),
         words: given.words(alloc, "N"),
     };
-    let (only, count) = (given.setting("only"), given.flag("count"));
+    let only = given.setting("only");
+    let count = given.flag("count");
     let page = given.setting("html");
-    given.refuse_if(
-        page.is_some() && (count || only.is_some()),
-        Misuse::PageOfPart,
-    );
+    given.refuse_if(page.is_some() && (count || only.is_some()), PAGE_OF_PART);
     RoutineRequest::Trace {
         image: given.word("IN"),
         words: TraceWords {
@@ -268,10 +269,11 @@ fn trace_of<'a>(alloc: Global, given: &mut Given<'_, 'a>) -> RoutineRequest<'a>
     }
 }
 
-/// What an `asm` asks for. The image of a text does not take its place: the text would be lost.
+/// The request of an `asm`. The image of a text may not replace the text.
 fn asm_of<'a>(given: &mut Given<'_, 'a>) -> TextRequest<'a> {
-    let (text, image) = (given.word("IN"), given.word("OUT"));
-    given.refuse_if(text == image && !is_stream(text), Misuse::OntoIn);
+    let text = given.word("IN");
+    let image = given.word("OUT");
+    given.refuse_if(text == image && !is_stream(text), ONTO_IN);
     TextRequest::Assemble {
         text,
         image,
@@ -279,7 +281,7 @@ fn asm_of<'a>(given: &mut Given<'_, 'a>) -> TextRequest<'a> {
     }
 }
 
-/// What a `new` asks for.
+/// The request of a `new`.
 fn new_of<'a>(given: &mut Given<'_, 'a>) -> FileRequest<'a>
     ensures { WorksWithinLimits result }
 {
@@ -289,16 +291,14 @@ fn new_of<'a>(given: &mut Given<'_, 'a>) -> FileRequest<'a>
     }
 }
 
-/// What a `run` asks for. A wrong number is said first.
+/// The request of a `run`. A wrong number is reported first.
 fn run_of<'a>(given: &mut Given<'_, 'a>) -> RoutineRequest<'a>
     ensures { RunsWithinLimits result }
 {
     let region = given.number(&REGION);
-    let (image, script) = (given.word("IMAGE"), given.word("SCRIPT"));
-    given.refuse_if(
-        is_stream(image) && is_stream(script),
-        Misuse::TwoOfOneStream,
-    );
+    let image = given.word("IMAGE");
+    let script = given.word("SCRIPT");
+    given.refuse_if(is_stream(image) && is_stream(script), TWO_OF_ONE_STREAM);
     RoutineRequest::Run {
         image,
         file: given.word("FILE"),
@@ -311,20 +311,17 @@ fn run_of<'a>(given: &mut Given<'_, 'a>) -> RoutineRequest<'a>
     }
 }
 
-/// What an `explain` asks for.
+/// The request of an `explain`.
 fn explain_of<'a>(given: &mut Given<'_, 'a>) -> TextRequest<'a> {
     let image = given.word("IMAGE");
     let names = given.flag("vars");
     match given.setting("script") {
         None => {
-            given.refuse_if(names, Misuse::NamesOfNoScript);
+            given.refuse_if(names, NAMES_OF_NO_SCRIPT);
             TextRequest::Explain(image)
         }
         Some(script) => {
-            given.refuse_if(
-                is_stream(image) && is_stream(script),
-                Misuse::TwoOfOneStream,
-            );
+            given.refuse_if(is_stream(image) && is_stream(script), TWO_OF_ONE_STREAM);
             TextRequest::ExplainScript {
                 image,
                 script,
@@ -338,26 +335,26 @@ fn explain_of<'a>(given: &mut Given<'_, 'a>) -> TextRequest<'a> {
 fn chunk_of<'a>(given: &mut Given<'_, 'a>) -> ChunkPath<'a> {
     ChunkPath {
         file: given.word("FILE"),
-        handle: given.short("H", Misuse::NoHandle),
-        chunk: given.short("C", Misuse::NoChunk),
+        handle: given.short("H", NO_HANDLE),
+        chunk: given.short("C", NO_CHUNK),
         item: given.flag("item"),
     }
 }
 
-/// What a `put` asks for. A wrong number is said first.
+/// The request of a `put`. A wrong number is reported first.
 fn put_of<'a>(given: &mut Given<'_, 'a>) -> FileRequest<'a>
     ensures { WorksWithinLimits result }
 {
     let region = given.number(&REGION);
     let chunk = chunk_of(given);
     let at = match given.setting("AT") {
-        Some(_) => Some(given.short("AT", Misuse::NoOffset)),
+        Some(_) => Some(given.short("AT", NO_OFFSET)),
         None => None,
     };
     FileRequest::Put { chunk, at, region }
 }
 
-/// What a `get` asks for. A wrong number is said first.
+/// The request of a `get`. A wrong number is reported first.
 fn get_of<'a>(given: &mut Given<'_, 'a>) -> FileRequest<'a>
     ensures { WorksWithinLimits result }
 {
@@ -368,7 +365,7 @@ fn get_of<'a>(given: &mut Given<'_, 'a>) -> FileRequest<'a>
     }
 }
 
-/// What a `map` asks for.
+/// The request of a `map`.
 fn map_of<'a>(given: &mut Given<'_, 'a>) -> FileRequest<'a>
     ensures { WorksWithinLimits result }
 {
@@ -378,21 +375,19 @@ fn map_of<'a>(given: &mut Given<'_, 'a>) -> FileRequest<'a>
     }
 }
 
-/// What a `budget` or a `fmt` writes. What is made of a text takes its place only if that is asked for.
+/// The output of a `budget` or a `fmt`. It replaces the text only if that is requested.
 fn new_text_of<'a>(given: &mut Given<'_, 'a>) -> NewText<'a> {
-    let (text, out) = (given.word("TEXT"), given.setting("OUT"));
+    let text = given.word("TEXT");
+    let out = given.setting("OUT");
     let in_place = given.flag("in-place");
     let is_of_stream = is_stream(text);
-    given.refuse_if(
-        in_place && (is_of_stream || out.is_some()),
-        Misuse::NotInPlace,
-    );
+    given.refuse_if(in_place && (is_of_stream || out.is_some()), NOT_IN_PLACE);
     let new = if in_place {
         text
     } else {
         out.unwrap_or(STANDARD)
     };
-    given.refuse_if(text == new && !in_place && !is_of_stream, Misuse::OntoText);
+    given.refuse_if(text == new && !in_place && !is_of_stream, ONTO_TEXT);
     NewText {
         text,
         new,
@@ -400,7 +395,7 @@ fn new_text_of<'a>(given: &mut Given<'_, 'a>) -> NewText<'a> {
     }
 }
 
-/// What a `dump` asks for.
+/// The request of a `dump`.
 fn dump_of<'a>(given: &Given<'_, 'a>) -> FileRequest<'a>
     ensures { WorksWithinLimits result }
 {
@@ -410,7 +405,7 @@ fn dump_of<'a>(given: &Given<'_, 'a>) -> FileRequest<'a>
     }
 }
 
-/// What the words behind the name of a command ask for.
+/// The request of the words after the name of a command.
 fn command_request<'a>(alloc: Global, name: &str, given: &mut Given<'_, 'a>) -> Request<'a>
     ensures { KeepsLimits result }
 {
@@ -432,70 +427,25 @@ fn command_request<'a>(alloc: Global, name: &str, given: &mut Given<'_, 'a>) -> 
     }
 }
 
-/// Whether a command can print JSON objects.
-fn has_json(name: &str) -> bool {
-    matches!(
-        name,
-        "call" | "trace" | "asm" | "check" | "explain" | "dump"
-    )
-}
-
-/// What asks for another form than JSON objects, if something does.
-fn other_form(given: &Given<'_, '_>, name: &str) -> Option<Other> {
-    match name {
-        "call" if given.flag("hex") => Some(Other::Hex),
-        "call" if given.flag("signed") => Some(Other::Signed),
-        "call" if given.flag("text") => Some(Other::Text),
-        "call" if given.flag("label") => Some(Other::Label),
-        "trace" if given.setting("html").is_some() => Some(Other::Page),
-        "asm" if is_stream(given.word("OUT")) => Some(Other::Output),
-        "explain" if given.setting("script").is_some() => Some(Other::Script),
-        _ => None,
-    }
-}
-
-/// Whether JSON objects are asked for. Nothing else is printed then, so nothing may ask for another form.
-fn json_of(given: &mut Given<'_, '_>, name: &str, diagnostics: bool) -> bool {
-    if !has_json(name) || !given.flag("json") {
+/// Whether JSON objects are asked for. Nothing else is printed then, so nothing may ask for another form. A command without `--json` or
+/// without one of the other words has none of them.
+fn json_of(given: &mut Given<'_, '_>, diagnostics: bool) -> bool {
+    if !given.flag("json") {
         return false;
     }
-    given.refuse_if(diagnostics, Misuse::NotWithJson(Other::Diagnostics));
-    if let Some(other) = other_form(given, name) {
-        given.refuse_if(true, Misuse::NotWithJson(other));
+    given.refuse_if(diagnostics, JSON_OR_DIAGNOSTICS);
+    for line in JSON_OR_FORM.lines() {
+        let (flag, message) = parts_of(line, ' ');
+        let is_given = given.flag(flag);
+        given.refuse_if(is_given, Misuse::Wrong(message));
     }
+    let has_page = given.setting("html").is_some();
+    given.refuse_if(has_page, JSON_OR_PAGE);
+    let has_script = given.setting("script").is_some();
+    given.refuse_if(has_script, JSON_OR_SCRIPT);
+    let is_printed = is_stream(given.word("OUT"));
+    given.refuse_if(is_printed, JSON_OR_OUTPUT);
     true
-}
-
-/// The words with their control characters by their bytes.
-fn printable(alloc: Global, words: &[String]) -> Result<Vec<String>, AllocError> {
-    let mut shown = Vec::new(alloc);
-    for word in words {
-        let word = Printable(word.as_str());
-        shown.push(format!(in alloc; "{word}")?)?;
-    }
-    Ok(shown)
-}
-
-/// What words are answered that have control characters, and of which `clap` finds something wrong: what it finds in them when these are
-/// written by their bytes, so that none of them gets into a line of what it says.
-fn answer_to_control(alloc: Global, words: &[String], error: &Error) -> Answer {
-    match printable(alloc, words) {
-        Ok(shown) => match matches_of(alloc, &shown) {
-            Ok(_) => Answer::of(alloc, error),
-            Err(error) => Answer::of(alloc, &error),
-        },
-        Err(_) => Answer::Memory,
-    }
-}
-
-/// What words are answered in which `clap` finds no request.
-fn answer_to(alloc: Global, words: &[String], error: &Error) -> Answer {
-    for word in words {
-        if has_control(word.as_str()) {
-            return answer_to_control(alloc, words, error);
-        }
-    }
-    Answer::of(alloc, error)
 }
 
 /// The request of the words, and what is reported beside its faults. An error is what they are answered if something is wrong with them.
@@ -516,7 +466,7 @@ fn asked_of<'a>(alloc: Global, matches: &ArgMatches<'a>) -> Result<Asked<'a>, An
     let mut given = Given::new(words);
     let request = command_request(alloc, name, &mut given);
     let limits = RunLimits::of(&mut given, name);
-    let json = json_of(&mut given, name, diagnostics);
+    let json = json_of(&mut given, diagnostics);
     match given.misuse() {
         None => Ok(Asked {
             request,
@@ -529,7 +479,7 @@ fn asked_of<'a>(alloc: Global, matches: &ArgMatches<'a>) -> Result<Asked<'a>, An
     }
 }
 
-/// What the words after the program's name ask for. An error is the answer to words that ask for nothing to be done.
+/// The request of the words after the program's name. An error is the answer to words that request no work.
 pub fn requested<'a>(alloc: Global, words: &'a [String]) -> Result<Asked<'a>, Answer>
     ensures { IfOk result (λ asked. KeepsLimits asked.request) }
 {

@@ -21,9 +21,9 @@ impl<'a> RunLimits<'a> {
         }
     }
 
-    /// Those of a command with this name; only `call` and `run` have some.
+    /// Those of a command with this name; only `call`, `run` and `trace` have some.
     pub(crate) fn of(given: &mut Given<'_, 'a>, name: &str) -> RunLimits<'a> {
-        if !matches!(name, "call" | "run") {
+        if !matches!(name, "call" | "run" | "trace") {
             return RunLimits::none();
         }
         RunLimits {

@@ -8,6 +8,7 @@ use crate::reason::Reason;
 use crate::replace::replace;
 use crate::reported::Diagnosed;
 use std::alloc::{AllocError, Global};
+use std::fmt::{self, Display, Formatter};
 use std::io::{ErrorKind, IsTerminal, Read, Write};
 use std::{fs, io};
 use thiserror::Error;
@@ -21,7 +22,7 @@ pub(crate) fn is_stream(path: &str) -> bool {
 }
 
 /// Why bytes were not read, or not written.
-#[derive(Debug, Drop, Error)]
+#[derive(Drop, Error)]
 pub enum StreamFault<'a> {
     /// The file with the path can't be read.
     #[error("cannot read {}", Named(.0))]
@@ -35,6 +36,12 @@ pub enum StreamFault<'a> {
     /// An allocation was refused.
     #[error("memory")]
     Memory,
+}
+
+impl fmt::Debug for StreamFault<'_> {
+    fn fmt<W: fmt::Write>(&self, f: &mut Formatter<W>) -> fmt::Result {
+        Display::fmt(self, f)
+    }
 }
 
 impl Diagnosed for StreamFault<'_> {
@@ -89,7 +96,7 @@ fn bytes_at(rt: &HostRuntime, path: &str, most: u64) -> io::Result<Vec<u8>> {
 }
 
 /// The first bytes of the file with the path, at most so many; of the standard input where it is `-`. `StreamFault::Write` of
-/// `-` where the standard output goes into that file.
+/// `-` if the standard output goes into that file.
 pub fn read<'a>(rt: &HostRuntime, path: &'a str, most: u64) -> Result<Vec<u8>, StreamFault<'a>> {
     keep_from_output(rt, path)?;
     match bytes_at(rt, path, most) {
@@ -126,7 +133,7 @@ pub fn print_lines<'a>(rt: &HostRuntime, text: &[u8]) -> Result<(), StreamFault<
     }
 }
 
-/// Diagnostics with control characters by their bytes, in colours if they are wanted.
+/// Diagnostics with control characters by their bytes, in colours if they are required.
 fn shown(rt: &HostRuntime, lines: &[u8]) -> Result<String, AllocError> {
     let shown = for_terminal(rt.alloc(), lines)?;
     if colours::are_wanted(rt) {

@@ -1,4 +1,4 @@
-//! The topic that words on the command line ask for.
+//! The topic that words on the command line name.
 
 use crate::topic;
 use std::alloc::{AllocError, Global};
@@ -15,7 +15,7 @@ fn joined(alloc: Global, words: &[String]) -> Result<String, AllocError> {
     Ok(all)
 }
 
-/// The text on the topic that the words on a command line ask for: those after `help`, also in small letters. `None` if they ask for no topic.
+/// The text on the topic that the words after `help` name, also in small letters. `None` if they name no topic.
 /// `AllocError` if the allocator refuses memory.
 pub fn topic_of(alloc: Global, words: &[String]) -> Result<Option<String>, AllocError> {
     let Some((help, rest)) = words.split_first() else {

@@ -95,7 +95,7 @@ locks).
 Example: MFREE w0 not_made    (in examples/line.asm)
 
 SNE sa sb L
-to L if sa and sb hold one block.
+to L if sa and sb contain the same block.
 Example: SNE s0 s1 both    (in examples/accounts.asm)
 
 LALLOC sa wb wc L
@@ -279,17 +279,17 @@ Example: CARESIZE s0 w1 w4 w6 unlock    (in examples/index.asm)
 
 VNEW sa wb wc L
 makes a marked block of the file with user ID wc, and locks it into sa; wb = its handle.
-It is refused, with the number in w7, and control goes to L: 15 (the user ID of groups,
-65,280, is given, or a group is given instead of a block); 5 (no handle is free); 4 (no room
-in the region).
+It is refused, with the number in w7, and control goes to L: 15 (the user ID is 65,280
+(groups), or a group is named instead of a block); 5 (no handle is free); 4 (no room in the
+region).
 Example: VNEW s0 w3 w0 not_made    (in examples/accounts.asm)
 
 VLOCK sa wb L
 locks the file's block wb into sa.
 It is refused, with the number in w7, and control goes to L: 1 (no block has this handle, or
-the block is no group and a group is required); 15 (the user ID of groups, 65,280, is given,
-or a group is given instead of a block); 7 (the block is locked, or has 65,535 locks); 4 (no
-room in the region); 11 (the device failed).
+the block is no group and a group is required); 15 (the user ID is 65,280 (groups), or a
+group is named instead of a block); 7 (the block is locked, or has 65,535 locks); 4 (no room
+in the region); 11 (the device failed).
 Example: VLOCK s0 w4 none    (in examples/accounts.asm)
 
 VDIRTY sa
@@ -303,14 +303,14 @@ Example: VUNLOCK s0    (in examples/accounts.asm)
 VFREE wa L
 frees the file's block wa; unmaps it.
 It is refused, with the number in w7, and control goes to L: 1 (no block has this handle, or
-the block is no group and a group is required); 15 (the user ID of groups, 65,280, is given,
-or a group is given instead of a block); 7 (the block is locked, or has 65,535 locks).
+the block is no group and a group is required); 15 (the user ID is 65,280 (groups), or a
+group is named instead of a block); 7 (the block is locked, or has 65,535 locks).
 Example: VFREE w3 not_made    (in examples/accounts.asm)
 
 VFIND wa wb wc L
 wa = the lowest handle above wb of a block with user ID wc, or 0.
-It is refused, with the number in w7, and control goes to L: 15 (the user ID of groups,
-65,280, is given, or a group is given instead of a block).
+It is refused, with the number in w7, and control goes to L: 15 (the user ID is 65,280
+(groups), or a group is named instead of a block).
 Example: VFIND w3 w2 w0 not_made    (in examples/accounts.asm)
 
 VUID wa wb L
@@ -326,8 +326,8 @@ Example: VGETMAP w0    (in examples/counter.asm)
 VSETMAP wa L
 the map block is wa; 0 for none.
 It is refused, with the number in w7, and control goes to L: 1 (no block has this handle, or
-the block is no group and a group is required); 15 (the user ID of groups, 65,280, is given,
-or a group is given instead of a block).
+the block is no group and a group is required); 15 (the user ID is 65,280 (groups), or a
+group is named instead of a block).
 Example: VSETMAP w0 undo    (in examples/counter.asm)
 
 VUPDATE L
@@ -450,7 +450,7 @@ Example: p0=s0:4 leads into an empty slot: lock a block into the slot first, or 
 in line what the slot has
 
 V3 EntryMisfit
-It refuses: first pc: the entry row does not imply the row here; or the routine is public
+It refuses: the entry row does not imply the row of the first pc; or the routine is public
 and its entry or exit row breaks the rules.
 Example: a public routine begins and ends with empty or borrowed slots and stale pointers;
 s0=mem in the in line is not borrowed: lock the block in this routine, or omit public
@@ -460,14 +460,14 @@ Cure: in a public routine `in` and `out` have no pointers, and only borrowed slo
 V4 StalePointer
 It refuses: a pointer that is read, written, copied (by MOVP too) or measured is stale.
 Example: p0 may be stale here; LFREE at line 14 may have moved its chunk: fetch p0 again
-Cure: after an item call fetch pointers into every group again; fetch where paths meet. Tell
-slots apart by SNE.
+Cure: after an instruction on an item, fetch pointers into every group again. If several
+paths lead to a label, fetch after it. Compare slots by SNE.
 
 V5 PassesEnd
 It refuses: a read or a write may pass the least length of its pointer.
 Example: w0<=7 is required, since 8 bytes are known at p0, and nothing is known of w0; CHK
 w0 7 L before this bounds it, or LDCB tests it
-Cure: AND bounds an index too.
+Cure: AND also bounds an index.
 
 V6 ChangesUnmarked
 It refuses: a slot with a VM block or DB group not known to be marked is written through a
@@ -478,19 +478,16 @@ V7 LocksIntoHeld
 It refuses: a block is locked into a slot that is not empty.
 Example: s0=mem is locked here, and an empty slot is required: use another slot, or MUNLOCK
 s0 first
-Cure: unlock the slot first, or use another one; lock a block into it on each path; leave
-borrowed blocks to the caller.
 
 V8 WrongSlot
 It refuses: a slot is used, other than to lock into it, that is empty or has a block of the
 wrong kind; or a borrowed slot is unlocked. SNE requires two blocks of one kind.
 Example: s0 is empty here, and a locked block is required: lock one into s0 first, or say s0
 in the in line
-Cure: unlock the slot first, or use another one; lock a block into it on each path; leave
-borrowed blocks to the caller.
+Cure: lock a block into the slot on each path; leave borrowed blocks to the caller.
 
 V9 CommitsHeld
-It refuses: VUPDATE, VSAVE or VREVERT while a slot has a VM block or a DB group.
+It refuses: VUPDATE, VSAVE or VREVERT while a slot contains a VM block or a DB group.
 Example: s0=vm is locked where the file is written: unlock it before; s0 is locked since the
 in line: unlock it in the caller
 
@@ -498,8 +495,8 @@ V10 CallMisfit
 It refuses: CALL of a routine that does not come before its own, or whose entry row the row
 does not imply.
 Example: s0=vm is required by v9, and not known here; first lock a block into s0
-Cure: lock, fetch, bound and tell apart what the callee's `in` says; empty the slots that it
-locks itself.
+Cure: before the CALL, lock, fetch, bound or compare what the callee's `in` names. Empty the
+slots that the callee locks itself.
 
 V11 ExitMisfit
 It refuses: RET if the row does not imply the exit row.
@@ -513,16 +510,16 @@ Example: s0=mem is required at line 52, and not known here; no path leads here: 
 V13 EdgeUnpaid
 It refuses: an edge is not paid for.
 Example: 4 steps are required from here, and 2 are left
-Cure: have a LOOP on each cycle. Its counter is set on each path to the loop, and touched by
-no CALL. Bound the word of SETKW.
+Cure: put a LOOP on each cycle. Set its counter on each path to the loop, and in no callee.
+Bound the word of SETKW.
 
 V14 OverBudget
-It refuses: first pc: the potential's constant is above the budget, or a coefficient is
-above 0.
+It refuses: at the first pc the potential's constant is above the budget, or a coefficient
+is above 0.
 Example: 2 steps are required from the start of v14, and the budget is 1: the least budget
 is 2
-Cure: have a LOOP on each cycle. Its counter is set on each path to the loop, and touched by
-no CALL. Bound the word of SETKW.
+Cure: put a LOOP on each cycle. Set its counter on each path to the loop, and in no callee.
+Bound the word of SETKW.
 
 refused 1 BadHandle
 no block has this handle, or the block is no group and a group is required.
@@ -568,7 +565,7 @@ the offset or bytes lie past the end of the chunk, or of the pointer's bytes; or
 other than 0 has no group.
 
 refused 15 Reserved
-the user ID of groups, 65,280, is given, or a group is given instead of a block.
+the user ID is 65,280 (groups), or a group is named instead of a block.
 
 why 1 UnknownWord
 the first word after the labels is no instruction, and none of `routine`, `in`, `out`.
