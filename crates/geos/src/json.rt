@@ -4,7 +4,10 @@ use geos_json::JsonLines;
 use geos_shell::{Diagnosed, Reported, Reports, StreamFault, done_or_reported, print};
 use geos_texts::{FaultySource, Runnable, TextFault, assemble, assemble_all};
 use geos_verify::Reject;
-use json_findings::{Finding, Severity, Source, put_finding, put_judged, put_why_no_image};
+use json_findings::{
+    Finding, MarkedText, Severity, Source, put_finding, put_judged, put_why_no_image,
+};
+use line_marks::LineMarks;
 use std::alloc::{AllocError, Global};
 use std::fmt::Display;
 
@@ -29,7 +32,7 @@ fn print_fault<F: Display>(rt: &HostRuntime, fault: &F) {
     let _ = print_objects(rt, objects);
 }
 
-/// What was done. A fault is reported instead, and if JSON is asked for, it is an object too.
+/// The result of a request. A fault is reported instead, as an object if JSON is requested.
 pub(crate) fn done<T: Drop, F: Diagnosed + Display + Drop>(
     rt: &HostRuntime,
     reports: Reports,
@@ -62,6 +65,7 @@ fn put_source(
         alloc,
         out,
         &Finding {
+            marks: None,
             severity: Severity::Error,
             file: fault.path,
             line: Some(fault.line as u64),
@@ -72,10 +76,23 @@ fn put_source(
     )
 }
 
+/// The line marks of a text, if it has some.
+fn marks_of(marks: &LineMarks) -> Option<&LineMarks> {
+    if marks.is_empty() { None } else { Some(marks) }
+}
+
 /// Why a text or an image was not read.
 fn put_fault(alloc: Global, out: &mut JsonLines, fault: &TextFault<'_>) -> Result<(), AllocError> {
     match fault {
-        TextFault::Assemble(text) => put_why_no_image(alloc, out, text.path, &text.text),
+        TextFault::Assemble(text) => put_why_no_image(
+            alloc,
+            out,
+            MarkedText {
+                file: text.path,
+                text: &text.text,
+                marks: marks_of(&text.marks),
+            },
+        ),
         TextFault::Source(source) => put_source(alloc, out, source),
         _ => Ok(()),
     }
@@ -88,21 +105,29 @@ struct Judged<'a> {
     reject: Option<Reject>,
 }
 
+/// An image that was read, as a source of findings.
+fn source_of<'t>(image: &'t Runnable<'_>, reports: Reports, effects: bool) -> Source<'t, 't> {
+    Source {
+        file: image.path,
+        lines: image.lines().unwrap_or(&[]),
+        marks: marks_of(&image.marks),
+        warns: reports.warnings,
+        effects,
+    }
+}
+
 /// Prints what is found in an image that was read, or why none was, and returns the image and its first refusal.
 fn told<'a>(
     rt: &HostRuntime,
     reports: Reports,
     read: Result<Runnable<'a>, TextFault<'a>>,
+    effects: bool,
 ) -> Result<Judged<'a>, TextFault<'a>> {
     let alloc = rt.alloc();
     let mut out = JsonLines::new(alloc);
     match read {
         Ok(image) => {
-            let source = Source {
-                file: image.path,
-                lines: image.lines().unwrap_or(&[]),
-                warns: reports.warnings,
-            };
+            let source = source_of(&image, reports, effects);
             let reject = put_judged(alloc, &mut out, &source, &image.image)?;
             print_objects(rt, out)?;
             Ok(Judged { image, reject })
@@ -122,17 +147,18 @@ pub(crate) fn read_and_tell<'a>(
     reports: Reports,
     path: &'a str,
 ) -> Result<Runnable<'a>, TextFault<'a>> {
-    let judged = told(rt, reports, Runnable::read(rt, path))?;
+    let judged = told(rt, reports, Runnable::read(rt, path), false)?;
     Ok(judged.image)
 }
 
-/// The same, and `TextFault::Explained` if the verifier refuses the image.
+/// The same, and `TextFault::Explained` if the verifier refuses the image. `effects` says whether those of each routine are printed.
 pub(crate) fn check_and_tell<'a>(
     rt: &HostRuntime,
     reports: Reports,
     path: &'a str,
+    effects: bool,
 ) -> Result<(), TextFault<'a>> {
-    let judged = told(rt, reports, Runnable::read(rt, path))?;
+    let judged = told(rt, reports, Runnable::read(rt, path), effects)?;
     match judged.reject {
         None => Ok(()),
         Some(reject) => Err(TextFault::Explained(reject)),
@@ -155,6 +181,6 @@ pub(crate) fn assemble_and_tell<'a>(
     } else {
         assemble(rt, reports, text, image)
     };
-    told(rt, reports, made)?;
+    told(rt, reports, made, false)?;
     Ok(())
 }

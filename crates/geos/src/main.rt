@@ -61,7 +61,7 @@ fn run_request(rt: &HostRuntime, asked: Asked) -> ExitCode
     }
 }
 
-/// The answer to words that ask for nothing to be done: the text on a topic, if they ask for one, which is no command.
+/// The answer to words that request no work: the text on a topic, if they name one that is no command.
 fn topic_or(rt: &HostRuntime, words: &[String], answer: Answer) -> Answer {
     if !matches!(answer, Answer::Misuse(_)) {
         return answer;
@@ -73,7 +73,7 @@ fn topic_or(rt: &HostRuntime, words: &[String], answer: Answer) -> Answer {
     }
 }
 
-/// Does what the words ask for, and returns the program's status.
+/// Carries out the request of the words, and returns the program's status.
 fn run(rt: &HostRuntime, words: &[String]) -> ExitCode {
     match requested(rt.alloc(), words) {
         Ok(asked) => run_request(rt, asked),
@@ -81,7 +81,7 @@ fn run(rt: &HostRuntime, words: &[String]) -> ExitCode {
     }
 }
 
-/// Does what the words on the command line ask for.
+/// Carries out the request of the words on the command line.
 fn start(rt: &HostRuntime) -> ExitCode {
     match words(rt) {
         Ok(words) => run(rt, words.as_slice()),

@@ -1,11 +1,11 @@
-//! What the words on the command line ask for is done.
+//! Carries out the requests of the command line.
 
 ghost use Rattle.geos_shell.specs.Limits.{KeepsLimits, RunsWithinLimits, WorksWithinLimits};
 
 use crate::json::{assemble_and_tell, check_and_tell, done, read_and_tell};
 use geos_cli::Mode;
 use geos_dump::Detail;
-use geos_files::{draw_file, make_file, print_file};
+use geos_files::{check_file, draw_file, is_vm_file, make_file, print_file};
 use geos_runs::{
     Manner, RunFault, Shown, Traceable, call as run_call, get, put, run, session, trace,
 };
@@ -15,8 +15,8 @@ use geos_shell::{
     TextRequest, tell,
 };
 use geos_texts::{
-    KnownLines, Runnable, TextFault, assemble, assemble_all, budget, check, explain,
-    explain_script, format, keep_to_grants, keep_to_steps, known_lines, list, read_and_warn,
+    KnownLines, Limited, Limits, Runnable, TextFault, assemble, assemble_all, budget, check,
+    explain, explain_script, format, known_lines, list, read_and_warn,
 };
 
 /// What a script does after a refused command.
@@ -76,18 +76,12 @@ fn limited<'a>(
     rt: &HostRuntime,
     reports: Reports,
     image: &'a str,
-    called: Option<&str>,
+    called: Option<&'a str>,
     limits: &RunLimits<'a>,
-) -> Result<Runnable<'a>, Reported> {
+) -> Result<Limited<'a>, Reported> {
     let routines = runnable(rt, reports, image)?;
-    if let Some(list) = limits.grants {
-        done(rt, reports, keep_to_grants(rt, &routines, list))?;
-    }
-    if limits.most_steps < u32::MAX {
-        let kept = keep_to_steps(rt, &routines, called, limits.most_steps);
-        done(rt, reports, kept)?;
-    }
-    Ok(routines)
+    let limits = done(rt, reports, Limits::of(limits, called))?;
+    done(rt, reports, Limited::new(rt.alloc(), routines, limits))
 }
 
 /// How a script or a call is run.
@@ -108,7 +102,7 @@ fn manner_of(
     }
 }
 
-/// What a page shows of routines, if one is wanted.
+/// What a page shows of routines, if a page is requested.
 fn known_of(
     rt: &HostRuntime,
     reports: Reports,
@@ -121,56 +115,118 @@ fn known_of(
     }
 }
 
+/// What is traced of routines, and what a page shows of them, if their lines are known for one.
+fn traceable_of<'t>(
+    reports: Reports,
+    routines: &'t Runnable<'_>,
+    known: &'t Option<KnownLines>,
+) -> Traceable<'t> {
+    let shown = match known {
+        Some(known) => Some(Shown {
+            path: routines.path,
+            explained: &known.lines,
+            of_text: known.of_text,
+        }),
+        None => None,
+    };
+    Traceable {
+        image: &routines.image,
+        lines: routines.lines(),
+        shown,
+        json: reports.json,
+    }
+}
+
+/// What is read of a request before its routines run.
+#[derive(Clone, Copy)]
+struct Named<'a> {
+    /// The path of the image or the text.
+    image: &'a str,
+    /// The routine that a call names.
+    called: Option<&'a str>,
+    /// The path of a page, if one is required.
+    page: Option<&'a str>,
+}
+
+/// What a request names. A session names no image.
+fn named_in<'a>(request: &RoutineRequest<'a>) -> Option<Named<'a>> {
+    match request {
+        RoutineRequest::Session => None,
+        RoutineRequest::Call { image, call, .. } => Some(Named {
+            image,
+            called: match call {
+                Some(call) => Some(call.name),
+                None => None,
+            },
+            page: None,
+        }),
+        RoutineRequest::Trace { image, words, .. } => Some(Named {
+            image,
+            called: Some(words.call.name),
+            page: words.page,
+        }),
+        RoutineRequest::Run { image, .. } => Some(Named {
+            image,
+            called: None,
+            page: None,
+        }),
+    }
+}
+
 /// Runs routines as the request asks. Words are taken from left to right: the image is read, or assembled from a text, before the VM file
 /// is opened.
-fn run_routines(
+fn run_routines<'a>(
     rt: &HostRuntime,
     reports: Reports,
-    request: RoutineRequest<'_>,
-    limits: &RunLimits<'_>,
+    request: RoutineRequest<'a>,
+    limits: &RunLimits<'a>,
 ) -> Result<(), Reported>
     requires { RunsWithinLimits request }
 {
+    let Some(named) = named_in(&request) else {
+        return done(rt, reports, session(rt));
+    };
+    let kept = limited(rt, reports, named.image, named.called, limits)?;
+    let known = known_of(rt, reports, &kept.routines, named.page)?;
+    let end = run_on(rt, reports, request, &kept.routines, &known);
+    ran(rt, reports, end, &kept.routines)
+}
+
+/// Runs routines that were read. If a page is required, their lines are known.
+fn run_on<'a, 't>(
+    rt: &HostRuntime,
+    reports: Reports,
+    request: RoutineRequest<'a>,
+    routines: &'t Runnable<'_>,
+    known: &'t Option<KnownLines>,
+) -> Result<(), RunFault<'a>>
+    requires { RunsWithinLimits request }
+{
+    let image = &routines.image;
     match request {
-        RoutineRequest::Session => done(rt, reports, session(rt)),
+        RoutineRequest::Session => session(rt),
         RoutineRequest::Call {
-            image,
             call,
             file,
             region,
             strict,
             form,
             commit,
+            ..
         } => {
             let manner = manner_of(reports, strict, NameUse::Allowed, form, commit);
-            let called = call.as_ref().map(|call| call.name);
-            let routines = limited(rt, reports, image, called, limits)?;
-            let end = run_call(rt, &manner, &routines.image, call, file, region);
-            ran(rt, reports, end, &routines)
+            run_call(rt, &manner, image, call, file, region)
         }
         RoutineRequest::Trace {
-            image,
             words,
             file,
             region,
+            ..
         } => {
-            let routines = runnable(rt, reports, image)?;
-            let known = known_of(rt, reports, &routines, words.page)?;
-            let traceable = Traceable {
-                image: &routines.image,
-                lines: routines.lines(),
-                shown: known.as_ref().map(|known| Shown {
-                    path: image,
-                    explained: &known.lines,
-                    of_text: known.of_text,
-                }),
-                json: reports.json,
-            };
-            let end = trace(rt, &traceable, &words, file, region);
-            ran(rt, reports, end, &routines)
+            let traceable = traceable_of(reports, routines, known);
+            trace(rt, &traceable, &words, file, region)
         }
         RoutineRequest::Run {
-            image,
             file,
             script,
             region,
@@ -178,11 +234,10 @@ fn run_routines(
             names,
             form,
             commit,
+            ..
         } => {
             let manner = manner_of(reports, strict, use_of(names), form, commit);
-            let routines = limited(rt, reports, image, None, limits)?;
-            let end = run(rt, &manner, &routines.image, file, script, region);
-            ran(rt, reports, end, &routines)
+            run(rt, &manner, image, file, script, region)
         }
     }
 }
@@ -199,9 +254,8 @@ fn work_on_text<'a>(
             image,
             all_rows,
         } if reports.json => assemble_and_tell(rt, reports, text, image, all_rows),
-        TextRequest::Check(path) | TextRequest::Explain(path) if reports.json => {
-            check_and_tell(rt, reports, path)
-        }
+        TextRequest::Check(path) if reports.json => check_and_tell(rt, reports, path, false),
+        TextRequest::Explain(path) if reports.json => check_and_tell(rt, reports, path, true),
         TextRequest::Assemble {
             text,
             image,
@@ -251,8 +305,8 @@ fn work_on_file(
     }
 }
 
-/// Carries out a request. A fault is reported on standard error, with diagnostics if they are wanted. `limits` are tested before `call` and
-/// `run` run anything.
+/// Carries out a request. A fault is reported on standard error, with diagnostics if they are required. `limits` are tested before `call`,
+/// `run` and `trace` run anything.
 pub(crate) fn carry_out(
     rt: &HostRuntime,
     reports: Reports,
@@ -263,6 +317,9 @@ pub(crate) fn carry_out(
 {
     match request {
         Request::Routines(request) => run_routines(rt, reports, request, limits),
+        Request::Text(TextRequest::Check(path)) if is_vm_file(rt, path) => {
+            done(rt, reports, check_file(rt, path, reports.json))
+        }
         Request::Text(request) => { done(rt, reports, work_on_text(rt, reports, request)) }
         Request::File(request) => work_on_file(rt, reports, request),
     }

@@ -9,8 +9,8 @@ ghost use Rattle.geos_input.specs.Counted.{AppendsPart};
 use std::io;
 use std::io::{ErrorKind, Read, Write};
 
-/// A stream that counts how often it was asked, and how many of its calls failed. A count
-/// stays at its greatest value.
+/// A stream that counts its calls, and how many of them failed. A count stays at its greatest
+/// value.
 #[derive(Drop)]
 pub struct Counted<S> {
     pub stream: S,

@@ -8,8 +8,8 @@ use geos_verify::{Reject, Rule};
 use std::alloc::{AllocError, AllocFailed};
 use thiserror::Error;
 
-/// Why a script or a session ended early. Each but `Write` comes before the first command
-/// runs.
+/// Why a script or a session ended early. Each except `Write` is reported before the first
+/// command runs.
 #[derive(Debug, Drop, Error)]
 pub enum ScriptFault {
     /// The input, or the script, has more than 1,048,576 bytes.

@@ -87,7 +87,7 @@ fn is_end(line: &[u8]) -> bool
     }
 }
 
-/// The image's bytes, and the script behind the line `end`.
+/// The image's bytes, and the script after the line `end`.
 pub fn image_and_script(alloc: Global, input: &[u8]) -> Result<(Vec<u8>, &[u8]), ScriptFault>
     ensures good { IfOk result (λ _. hex_fault (lines input.now) ≡ None) }
     ensures image { IfOk result (λ parts. parts.0.items ≡ image_bytes (lines input.now)) }

@@ -13,11 +13,11 @@ use geos_text::MOST_BYTES;
 use std::alloc::Global;
 use std::io::Read;
 
-/// How many bytes are asked for at a time.
+/// The most bytes of one read.
 const CHUNK: usize = 4096;
 
-/// All that the reader gives, at most `MOST_BYTES`. Each turn gives a byte at least, or is the
-/// last: so the reader is asked at most `MOST_BYTES` + 1 times.
+/// All that the reader gives, at most `MOST_BYTES`. Each call gives a byte at least, or is the
+/// last: so the reader is called at most `MOST_BYTES` + 1 times.
 pub fn read_all<R: Read>(alloc: Global, input: &mut Counted<R>) -> Result<Vec<u8>, ScriptFault>
     ensures whole { IfOk result (λ bytes. Reads (R.remaining input.old.stream) (R.remaining input.new.stream) bytes.items) }
     ensures short { IfOk result (λ bytes. length bytes.items ≤ most_bytes) }

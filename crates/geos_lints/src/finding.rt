@@ -25,7 +25,7 @@ pub enum Lint {
 struct Known {
     /// A word that a CALL may read, or a caller, is live.
     live: Liveness,
-    /// The same, but for word 7, which is seldom passed.
+    /// The same, except for word 7, which is seldom passed.
     live_here: Liveness,
     reaching: Reaching,
 }

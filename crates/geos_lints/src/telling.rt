@@ -5,7 +5,7 @@ use crate::words::written;
 use geos_image::{Image, Instr};
 use std::alloc::{AllocError, Global};
 
-/// At most so many warnings are written; how many more there are is said.
+/// The most warnings that are written; the number of the others follows.
 const MOST: usize = 20;
 
 /// The number of the only word of a set.

@@ -64,7 +64,7 @@ pub(crate) fn can_be_refused(i: &Instr) -> bool {
     i.opcode.operands().refusable
 }
 
-/// Whether an instruction only computes a word, or loads it, and goes on.
+/// Whether an instruction only computes a word, or loads it, and continues.
 pub(crate) fn only_computes(i: &Instr) -> bool {
     let facts = i.opcode.facts();
     !branches(i.opcode)

@@ -41,8 +41,8 @@ pub(crate) enum Fault<'a> {
     NothingKept(Word<'a>),
     /// It comes after `->`, and is no name.
     BadName(Word<'a>),
-    /// It comes after a name that is kept.
+    /// It comes after a name that the line stores.
     SecondName(Word<'a>),
-    /// It is a name that is kept after too many others.
+    /// It is a name that the line stores after too many others.
     NameTooMany(Word<'a>),
 }

@@ -1,4 +1,4 @@
-//! What is wrong with a line of a script: with its command, or else with what keeps a word of it.
+//! What is wrong with a line of a script: with its command, or with the name under which it stores a word.
 
 ghost use Rattle.std.specs.Prelude.{◌≡◌, ◌≤◌, All, true, false, length, drop, IfNone, IfSome};
 ghost use Rattle.geos_image.specs.Parts.{Parts};

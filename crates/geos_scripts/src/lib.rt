@@ -1,4 +1,4 @@
-//! What an author is told of the bad lines of a script: each line, with the word at which it goes wrong, and why.
+//! Reports on the bad lines of a script: each line, with its first wrong word, and why it is wrong.
 //!
 //! docs/FORMATS.md has the sentences.
 #![tactic(auto)]

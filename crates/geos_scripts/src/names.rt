@@ -4,7 +4,7 @@ use geos_text::{first_line, without_comment};
 use script_commands::{Line, MOST_KEPT, kept_name};
 use std::alloc::{AllocError, Global};
 
-/// Whether the lines of a script may write names for words that calls put out.
+/// Whether the lines of a script may write names for words that calls output.
 #[derive(Clone, Copy)]
 pub enum NameUse {
     /// They may.

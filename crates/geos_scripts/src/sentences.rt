@@ -4,7 +4,7 @@ use crate::fault::Fault;
 use geos_lines::{Word, put_word};
 use sentence_text::Text;
 
-/// What is said of a word that is no command.
+/// The text about a word that is no command.
 fn text_of_command(word: Word) -> &'static str {
     if word.bytes.starts_with(b"\xef\xbb\xbf") {
         " is no command: the script begins with a byte order mark, which must go"
@@ -13,7 +13,7 @@ fn text_of_command(word: Word) -> &'static str {
     }
 }
 
-/// What is said of a word that is no number.
+/// The text about a word that is no number.
 fn text_of_number(word: Word) -> &'static str {
     if word.bytes.starts_with(b"->") {
         " is no number: write -> and the name as two words, as -> h"
@@ -22,7 +22,7 @@ fn text_of_number(word: Word) -> &'static str {
     }
 }
 
-/// What is said of the word for a name that no earlier line keeps.
+/// The text about a name that no earlier line stores.
 fn text_of_unkept(word: Word) -> &'static str {
     if word.bytes.starts_with(b"$@") {
         " names no word: the block that a name stands for is as @$h"
@@ -31,7 +31,7 @@ fn text_of_unkept(word: Word) -> &'static str {
     }
 }
 
-/// Writes a word, and what is said of it.
+/// Writes a word, and the text about it.
 fn put_said(out: &mut Text, word: &Word, text: &str) {
     put_word(out, *word);
     out.put(text)
@@ -110,7 +110,7 @@ fn put_naming(out: &mut Text, fault: &Fault) {
     }
 }
 
-/// Writes the sentence on what is wrong with a line; if nothing is found, that the machine may not be asked for it.
+/// Writes the sentence on what is wrong with a line; if nothing is found, that the machine does not admit the call.
 pub(crate) fn put_fault(out: &mut Text, fault: Option<Fault>) {
     match fault {
         None => out.put("it is no command that may be asked for"),

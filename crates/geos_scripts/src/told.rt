@@ -89,8 +89,8 @@ fn told_of(
     Ok(BadLines { told, first })
 }
 
-/// What there is to say of the bad lines of a script, for the image that the bytes spell. Its lines may write names for words
-/// that calls put out, or may not. Nothing runs. The faults are those of a script that are found before it runs, but for its
+/// What there is to say of the bad lines of a script, for the image that the bytes encode. Its lines may write names for words
+/// that calls output, or may not. Nothing runs. The faults are those of a script that are found before it runs, except for its
 /// bad lines.
 pub fn tell_bad_lines(
     alloc: Global,

@@ -3,6 +3,7 @@
 use crate::parts::{cause_line, column, cure};
 use geos_explain::Register;
 use geos_json::JsonLines;
+use line_marks::{LineMarks, Place};
 use std::alloc::{AllocError, Global};
 
 /// Whether something is refused, or only doubtful.
@@ -36,9 +37,11 @@ pub struct At<'a> {
     pub register: Option<Register>,
 }
 
-/// What is said of a file, or of a line or an instruction there.
+/// A message about a file, or about a line or an instruction there.
 #[derive(Clone, Copy)]
 pub struct Finding<'f, 'i, 'm> {
+    /// The line marks of the file, if it has some.
+    pub marks: Option<&'f LineMarks>,
     /// How bad it is.
     pub severity: Severity,
     /// The file.
@@ -89,17 +92,40 @@ fn put_at(out: &mut JsonLines, at: Option<At<'_>>) {
     }
 }
 
-/// Writes a finding.
+/// Where the line of a finding comes from, by the line marks of its file.
+fn place_of<'f>(finding: &Finding<'f, '_, '_>) -> Place<'f> {
+    let line = finding.line.unwrap_or(0);
+    match finding.marks {
+        Some(marks) => marks.place(line),
+        None => Place { file: None, line },
+    }
+}
+
+/// The sentence of a finding in the file `here`, in which line marks name other lines.
+fn said_by_marks(
+    alloc: Global,
+    finding: &Finding<'_, '_, '_>,
+    here: Option<&str>,
+) -> Result<Vec<u8>, AllocError> {
+    match finding.marks {
+        Some(marks) => marks.sentences(alloc, here, finding.message),
+        None => Vec::from_slice(alloc, finding.message),
+    }
+}
+
+/// Writes a finding. If the file has line marks, it is about the file and the line that they name.
 pub fn put_finding(
     alloc: Global,
     out: &mut JsonLines,
     finding: &Finding<'_, '_, '_>,
 ) -> Result<(), AllocError> {
-    let message = String::from_utf8_lossy(alloc, finding.message.trim_ascii())?;
+    let place = place_of(finding);
+    let said = said_by_marks(alloc, finding, place.file)?;
+    let message = String::from_utf8_lossy(alloc, said.trim_ascii())?;
     let cure = cure(alloc, &message)?;
     out.begin(finding.severity.word());
-    out.text("file", finding.file.as_bytes());
-    out.number_or_null("line", finding.line);
+    out.text("file", place.file.unwrap_or(finding.file).as_bytes());
+    out.number_or_null("line", finding.line.map(|_| place.line));
     out.number_or_null("column", finding.column.or(column(&message)));
     put_at(out, finding.at);
     out.text("message", message.as_bytes());

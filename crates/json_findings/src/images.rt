@@ -1,11 +1,14 @@
 //! What is wrong with images.
 
 use crate::finding::{At, Finding, Severity, put_finding, put_more};
+use effect_texts::put_effects;
 use geos_explain::{Refusal, RefusalList, Register, find_refusals};
+use geos_grants::{Effects, effects_of};
 use geos_image::{Image, ReadError};
 use geos_json::JsonLines;
 use geos_lints::{Lint, lint_sentence, lints};
-use geos_verify::{Reject, check, refused_places};
+use geos_verify::{Checked, Reject, check, refused_places};
+use line_marks::LineMarks;
 use std::alloc::{AllocError, Global};
 
 /// An image, and where it comes from.
@@ -54,6 +57,7 @@ impl<'i> Judged<'i, '_, '_> {
             alloc,
             out,
             &Finding {
+                marks: self.source.marks,
                 severity: Severity::Error,
                 file: self.source.file,
                 line: self.line(refusal.pc),
@@ -91,6 +95,7 @@ impl<'i> Judged<'i, '_, '_> {
             alloc,
             out,
             &Finding {
+                marks: self.source.marks,
                 severity: Severity::Warning,
                 file: self.source.file,
                 line: self.line(pc),
@@ -132,18 +137,59 @@ impl<'i> Judged<'i, '_, '_> {
     }
 }
 
-/// What is looked for in an image.
+/// What is searched in an image.
 #[derive(Clone, Copy)]
 pub struct Source<'f, 'l> {
     /// The path of the image, or of its text.
     pub file: &'f str,
     /// The line of each instruction in the text; empty without one.
     pub lines: &'l [u32],
+    /// The line marks of the text, if it has some.
+    pub marks: Option<&'f LineMarks>,
     /// Whether the author is warned.
     pub warns: bool,
+    /// Whether the effects of each routine are listed, if the image is accepted.
+    pub effects: bool,
 }
 
-/// Writes each refusal of an image, or warnings about an image that is accepted. The first refusal, if there is one.
+/// A set of effects in the words that `--grant` takes, as `output,changes-s0`.
+fn grant_list(alloc: Global, effects: &Effects) -> Result<Vec<u8>, AllocError> {
+    let mut words = Vec::new(alloc);
+    put_effects(&mut words, effects)?;
+    let mut list = Vec::new(alloc);
+    let mut after_comma = false;
+    for byte in &words {
+        if *byte != b' ' {
+            list.push(*byte)?;
+        } else if !after_comma {
+            list.push(b'-')?;
+        }
+        after_comma = *byte == b',';
+    }
+    Ok(list)
+}
+
+/// Writes an object for each routine, with its effects.
+fn put_routine_effects(
+    alloc: Global,
+    out: &mut JsonLines,
+    file: &str,
+    checked: &Checked,
+) -> Result<(), AllocError> {
+    let image = checked.image();
+    let table = effects_of(checked);
+    for r in 0..image.count() {
+        let list = grant_list(alloc, &table[usize::from(r)])?;
+        out.begin("effects");
+        out.text("file", file.as_bytes());
+        out.text("routine", image.routine(r).name_text());
+        out.text("effects", &list);
+        out.end();
+    }
+    Ok(())
+}
+
+/// Writes each refusal of an image, or warnings about an image that is accepted, and its effects. The first refusal, if there is one.
 /// `ReadError::BadImage` if the bytes encode no image.
 pub fn put_judged(
     alloc: Global,
@@ -157,6 +203,9 @@ pub fn put_judged(
             let image = checked.image();
             if source.warns {
                 Judged { image, source }.put_warnings(alloc, out)?;
+            }
+            if source.effects {
+                put_routine_effects(alloc, out, source.file, &checked)?;
             }
             Ok(None)
         }

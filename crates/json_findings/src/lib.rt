@@ -10,4 +10,4 @@ mod texts;
 
 pub use finding::{At, Finding, Severity, put_finding, put_more};
 pub use images::{Source, put_judged};
-pub use texts::put_why_no_image;
+pub use texts::{MarkedText, put_why_no_image};
