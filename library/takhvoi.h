@@ -182,6 +182,7 @@ TAKHVOI_CALL uint32_t takhvoi_lcontract(takhvoi_kernel *kernel, takhvoi_block bl
 TAKHVOI_CALL uint32_t takhvoi_lsize(takhvoi_kernel *kernel, takhvoi_block block, uint16_t chunk, uint16_t *len);
 /* The handles of all chunks, of a group those of its items. */
 TAKHVOI_CALL uint32_t takhvoi_llist(takhvoi_kernel *kernel, takhvoi_block block, uint16_t *into, size_t room, uint32_t *count);
+/* If read, caread or step_bytes is not done, `into` is left as it was. */
 TAKHVOI_CALL uint32_t takhvoi_read(takhvoi_kernel *kernel, takhvoi_block block, uint16_t chunk, uint16_t at, uint8_t *into, size_t len);
 TAKHVOI_CALL uint32_t takhvoi_write(takhvoi_kernel *kernel, takhvoi_block block, uint16_t chunk, uint16_t at, const uint8_t *from, size_t len);
 
@@ -286,6 +287,7 @@ TAKHVOI_CALL uint32_t takhvoi_routine(takhvoi_kernel *kernel, uint32_t image, co
  * NOT_ADMITTED, as it is if there is no such image or public routine, or a word is past its bound. Of the `count` words that the routine puts
  * out, as many as there is room for come into `output`. What it commits is noted, as by the commits above: for a takhvoi_file take
  * takhvoi_file_run. After this call, as after takhvoi_save, changes answer TAKHVOI_PENDING until takhvoi_file_flush has performed that.
+ * If the run does not begin, `words` and `output` are left as they were.
  * TAKHVOI_MEMORY says that the memory for the notes of one commit was refused, and nothing was begun. Each later commit of the same run gets
  * its own before it begins: if that is refused, the routine is answered 11, and nothing of this commit was begun. */
 TAKHVOI_CALL uint32_t takhvoi_run(takhvoi_kernel *kernel, uint32_t image, uint16_t routine, uint16_t words[8], const uint16_t lent[4],

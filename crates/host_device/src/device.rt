@@ -10,13 +10,14 @@ use crate::step::Step;
 use std::alloc::{AllocError, Global};
 use vm_file::{Device, Disk, MemoryDevice, Noting};
 
-/// A device in memory that notes each write and each sync, in order, until the host has performed them. A stop of the host while it
-/// performs them is a stop of the device at that call. It fails past its length, and where it has no memory to note a call.
+/// A device in memory that notes each write and each sync, in order, until the host has performed them. If the host stops while it performs
+/// them, its file has what a device may have after a stop at that call. A call fails past the device's length, and if the allocator refuses
+/// the memory for a note.
 #[derive(Drop)]
 pub struct HostDevice {
-    /// What reads give.
+    /// The bytes that reads return.
     cache: MemoryDevice,
-    /// What the host has not performed yet, in order.
+    /// The calls that the host has not performed, in order.
     log: Log,
     failures: u64,
 }
@@ -24,7 +25,7 @@ pub struct HostDevice {
 impl HostDevice {
     ghost use Rattle.host_device.specs.Journal.{MayLeave, bytes_of, failures_of, journal_of, steps_of};
 
-    /// A device of so many zero bytes, for a host that holds the same. `AllocError` where there is no memory.
+    /// A device of so many zero bytes, for a host with the same bytes. `AllocError` if the allocator refuses.
     pub fn new(alloc: Global, len: u64) -> Result<HostDevice, AllocError>
         ensures bytes { IfOk result (λ device. bytes_of device ≡ replicate len 0) }
         ensures steps { IfOk result (λ device. journal_of device ≡ []) }
@@ -37,7 +38,7 @@ impl HostDevice {
         })
     }
 
-    /// A device of the bytes that a host holds. `AllocError` where there is no memory.
+    /// A device of the bytes of a host. `AllocError` if the allocator refuses.
     pub fn holding(alloc: Global, bytes: &[u8]) -> Result<HostDevice, AllocError>
         ensures bytes { IfOk result (λ device. bytes_of device ≡ bytes.now) }
         ensures steps { IfOk result (λ device. journal_of device ≡ []) }
@@ -50,28 +51,31 @@ impl HostDevice {
         }
     }
 
-    /// Whether the host has performed all that was noted.
+    /// Whether the host has performed every noted call.
     pub fn is_performed(&self) -> bool
         ensures { IsTrue result ↔ journal_of self.now ≡ [] }
     {
         self.log.is_empty()
     }
 
-    /// The call with a number, from 0 on, of those that the host has not performed yet.
+    /// The call with a number, from 0 on, of those that the host has not performed; `None` past the last one.
     pub fn step(&self, number: usize) -> Option<Step<'_>>
         ensures { Tells result (slice_get (journal_of self.now) number) }
     {
         self.log.step(number)
     }
 
-    /// Whether it has the memory for all that a commit notes. A commit writes an area and the selector, and with what stands there
-    /// that is no more than the device has. `settle` gets it where nothing is noted.
+    /// Whether the log has the memory for every note of a commit. A commit writes an area and the selector: with the old bytes these are at
+    /// most as many bytes as the device has. `settle` gets this memory if nothing is noted.
+    ///
+    /// No clause says when the answer is false. After `settle` with no notes, it is false only if the allocator has refused, for which the
+    /// kit has no predicate.
     pub fn has_room(&self) -> bool {
         self.log
             .has_room(self.cache.as_slice().len(), STEPS_OF_A_COMMIT)
     }
 
-    /// Whether a range lies within the length.
+    /// Whether a range is within the length.
     fn has(&self, at: u64, n: usize) -> bool
         ensures { IsTrue result ↔ (at + n ≤ length (bytes_of self.now)) }
     {
@@ -80,7 +84,7 @@ impl HostDevice {
     }
 }
 
-/// A call failed: it is counted; at the greatest number the count stays.
+/// Counts a failed call, up to the greatest number.
 fn fail(failures: &mut u64) -> Result<(), Disk>
     ensures fails { OnOk result ⊥ }
     ensures counted { failures.new ≡ one_more failures.old }
@@ -102,7 +106,7 @@ impl Device for HostDevice {
         self.failures
     }
 
-    /// Reads the bytes from an offset on. `Disk` past the length, and there alone.
+    /// Reads the bytes from an offset on. `Disk` exactly if the range ends past the length.
     fn read_at(&mut self, at: u64, into: &mut [u8]) -> Result<(), Disk>
         ensures within { OnOk result (at + length into.old ≤ length (bytes_of self.old)) }
         ensures past { OnErr result (length (bytes_of self.old) < at + length into.old) }
@@ -117,7 +121,8 @@ impl Device for HostDevice {
         }
     }
 
-    /// Writes bytes from an offset on, and notes that. `Disk` past the length, and where there is no memory: then nothing changes.
+    /// Writes bytes from an offset on, and notes the write. `Disk` if the range ends past the length, or if the allocator refuses the memory
+    /// for the note: then nothing changes.
     fn write_at(&mut self, at: u64, bytes: &[u8]) -> Result<(), Disk>
         ensures within { OnOk result (at + length bytes.now ≤ length (bytes_of self.old)) }
         ensures written { OnOk result (bytes_of self.new ≡ with_part (bytes_of self.old) at bytes.now) }
@@ -145,7 +150,7 @@ impl Device for HostDevice {
         }
     }
 
-    /// Notes that what was written is made to last. `Disk` where there is no memory: then nothing changes.
+    /// Notes a sync. `Disk` if the allocator refuses the memory for the note: then nothing changes.
     fn sync(&mut self) -> Result<(), Disk>
         ensures durable { OnOk result (Only (bytes_of self.new) (MayLeave self.new)) }
         ensures reads { ReadsOnly medium self.old self.new }
@@ -175,7 +180,7 @@ impl Noting for HostDevice {
 
     ghost settles = { Settles };
 
-    /// Forgets what is noted. If nothing is, it gets the memory for all that a commit notes.
+    /// Forgets the noted calls. If there are none, it gets the memory for every note of a commit.
     fn settle(&mut self)
         ensures rests { Rests medium self.old self.new }
         ensures failed { medium.failed self.new ≡ medium.failed self.old }
@@ -185,7 +190,7 @@ impl Noting for HostDevice {
             return self.log.clear();
         }
         let len = self.cache.as_slice().len();
-        // If it is refused, `has_room` says so.
+        // If the allocator refuses, `has_room` returns false.
         let _ = self.log.reserve(len, STEPS_OF_A_COMMIT);
     }
 }

@@ -1,4 +1,4 @@
-//! The log of what is noted.
+//! The log of the calls that the host has not performed.
 ghost use Rattle.std.specs.Prelude.{List, ◌≡◌, ◌++◌, ◌∷◌, [], ◌↔◌, length, map, slice_get, All, IfOk, IsTrue, OnErr, OnOk};
 ghost use Rattle.host_device.specs.Notes.{IsWithin, Note, Tells, note_in};
 
@@ -7,13 +7,13 @@ use crate::step::Step;
 use std::alloc::{AllocError, Global};
 use std::marker::Model;
 
-/// How many calls a commit notes: it writes an area and the selector, and makes each last.
+/// How many calls a commit notes: a write of an area, a write of the selector, and a sync after each.
 pub(crate) const STEPS_OF_A_COMMIT: usize = 4;
 
-/// How many bytes are noted of the selector: what it was and what it becomes.
+/// How many bytes the log has of the selector: the old byte and the new one.
 const BYTES_OF_A_SELECTOR: usize = 2;
 
-/// Calls that are noted, in order. What is forgotten leaves its memory for what is noted later.
+/// The noted calls, in order. After `clear` the log has its memory still, and uses it for later calls.
 #[derive(Drop)]
 pub(crate) struct Log {
     records: Vec<Record>,
@@ -29,7 +29,7 @@ impl Model for Log {
 }
 
 impl Log {
-    /// Nothing is noted.
+    /// An empty log.
     pub(crate) fn new(alloc: Global) -> Log
         ensures { result ≡ [] }
     {
@@ -39,14 +39,14 @@ impl Log {
         }
     }
 
-    /// Whether nothing is noted.
+    /// Whether no call is noted.
     pub(crate) fn is_empty(&self) -> bool
         ensures { IsTrue result ↔ self.now ≡ [] }
     {
         self.records.is_empty()
     }
 
-    /// The call with a number, from 0 on.
+    /// The call with a number, from 0 on; `None` past the last one.
     pub(crate) fn step(&self, number: usize) -> Option<Step<'_>>
         ensures { Tells result (slice_get self.now number) }
     {
@@ -60,13 +60,14 @@ impl Log {
         }
     }
 
-    /// Whether it has memory for so many bytes and steps more.
+    /// Whether it has memory for so many more bytes and steps. No clause: a log's value is its list of notes, without its capacity.
     pub(crate) fn has_room(&self, bytes: usize, steps: usize) -> bool {
         bytes <= self.bytes.capacity() - self.bytes.len()
             && steps <= self.records.capacity() - self.records.len()
     }
 
-    /// Gets memory for so many bytes and steps more.
+    /// Gets memory for so many more bytes and steps. `AllocError` if the allocator refuses. No clause says when it refuses: the kit has no
+    /// predicate for a refusal of the allocator.
     pub(crate) fn reserve(&mut self, bytes: usize, steps: usize) -> Result<(), AllocError>
         ensures { self.new ≡ self.old }
     {
@@ -74,7 +75,8 @@ impl Log {
         self.records.reserve_exact(steps)
     }
 
-    /// Notes a write. If memory is lacking, it gets that of what follows in a commit too, so that none is refused halfway.
+    /// Notes a write: the bytes at that place before it, and the new ones. If memory is missing, it first gets the memory for the rest of the
+    /// commit too, so that the allocator refuses the first write or none. `AllocError` if it refuses: then nothing is noted.
     pub(crate) fn note_write(
         &mut self,
         at: u64,
@@ -97,7 +99,7 @@ impl Log {
         Ok(())
     }
 
-    /// Notes a sync.
+    /// Notes a sync. `AllocError` if the allocator refuses: then nothing is noted.
     pub(crate) fn note_sync(&mut self) -> Result<(), AllocError>
         ensures noted { OnOk result (self.new ≡ self.old ++ (Note.Sync ∷ [])) }
         ensures still { OnErr result (self.new ≡ self.old) }
@@ -106,7 +108,7 @@ impl Log {
         Ok(())
     }
 
-    /// Forgets what is noted.
+    /// Forgets all calls.
     pub(crate) fn clear(&mut self)
         ensures { self.new ≡ [] }
     {

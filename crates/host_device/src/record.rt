@@ -1,9 +1,9 @@
-//! Where the log has the bytes of a call.
+//! Where the bytes of a call are in the log.
 
 /// A call in the log.
 #[derive(Drop)]
 pub(crate) enum Record {
-    /// A write: its offset, where its bytes begin in the log, and how many it wrote. The log has first those that stood there.
+    /// A write: its offset, where its bytes begin in the log, and how many it wrote. The old bytes come first, then the new ones.
     Write(u64, usize, usize),
     Sync,
 }

@@ -1,10 +1,10 @@
-//! What the host is to do.
+//! The calls that a host performs.
 
-/// A call of the device that the host is to perform.
+/// A call of the device, which the host performs.
 #[derive(Drop)]
 pub enum Step<'a> {
     /// Write these bytes from an offset on.
     Write(u64, &'a [u8]),
-    /// Make last what was written.
+    /// Sync: make every earlier write last.
     Sync,
 }

@@ -1,4 +1,4 @@
--- What a handle of C's owns: what a box owns, or nothing where it is not live.
+-- What a handle of C owns: what a box owns, or nothing if the handle is not live.
 use Rattle.std.specs.Prelude.{ℕ}
 use Prim.Native.Nat.{zero, suc}
 use mir.Syntax.{Ty}
@@ -7,11 +7,11 @@ use denote.RattleType.{RattleType}
 use denote.RawPtr.{Ptr}
 use Rattle.std.specs.Box.Ownership.{box_owns}
 
--- F, or nothing where the number is 0
+-- F, or nothing if the number is 0
 abbrev pub where_live : ℕ → Fml → Fml
 where_live zero F = ftrue
 where_live (suc n) F = F
 
--- a box of this value, where the number is not 0
+-- a box with this value, if the number is not 0
 abbrev pub held : ℕ → (Ty → Ptr → Fml) → (R : RattleType) → Ptr → R.Denot → Fml
 held n token R p x = where_live n (box_owns token R p x)

@@ -1,5 +1,5 @@
--- What loading and running images come to.
-use Rattle.std.specs.Prelude.{◌≡◌, ◌⊎◌, ◌≤◌, ℕ, [], false, true, Some, None, IfSome, IsSomeAnd, List, length, take, unwrap_or, slice_get}
+-- The results of loading and running images.
+use Rattle.std.specs.Prelude.{◌≡◌, ◌⊎◌, ◌<◌, ◌≤◌, ℕ, [], false, true, Some, None, IfSome, IsSomeAnd, List, length, take, unwrap_or, slice_get}
 use Rattle.std.specs.Prelude.{Ok}
 use Rattle.lmem_raw.specs.Bytes.{with_part}
 use Rattle.geos_image.specs.Legal.{text_end}
@@ -8,7 +8,7 @@ use Rattle.geos_image.specs.Reading.{image_at}
 use Rattle.geos_image.specs.declared.routine.Routine.{Routine}
 use Rattle.geos_entry.specs.Entry.{admits, entry_slots}
 use Rattle.geos_verify.specs.declared.rule.Reject.{Reject}
-use Rattle.geos_verify.specs.Rules.{FirstRefusal}
+use Rattle.geos_verify.specs.Rules.{FirstRefusal, IsChecked}
 use Rattle.geos_verify.specs.RuleText.{rule_number}
 use Rattle.geos_calls.specs.VmFile.{VmFile}
 use Rattle.geos_kernel.specs.View.{IsFileOf, memory_of}
@@ -18,7 +18,7 @@ use Rattle.geos_machine.specs.Runs.{OpensAsOneOf, RanWith, Throughout, begin, ke
 use Rattle.geos_grants.specs.declared.effect.Effect.{Effect}
 use Rattle.geos_grants.specs.declared.effects.Effects.{Effects}
 use Rattle.geos_grants.specs.declared.granted.Excess.{Excess}
-use Rattle.geos_grants.specs.Grants.{IsExcess, IsGranted}
+use Rattle.geos_grants.specs.Grants.{IsExcess, IsGranted, IsGrantedBelow}
 use Rattle.geos_grants.specs.Routines.{has_effect}
 use Rattle.geos_grants.specs.Sets.{has}
 use Rattle.granted_runs.specs.Keeps.{RanWithin}
@@ -31,11 +31,11 @@ use Rattle.takhvoi.specs.Bits.{bit_of, bits_of, effects_in}
 use Rattle.takhvoi.specs.Journal.{IsUnbegun, Leads, MayStopAt}
 use Rattle.takhvoi.specs.Own.{IsPending}
 
--- the number stands for this image
+-- the image has this number
 abbrev pub StandsFor : System → ℕ → Parts → Type 0
 StandsFor system n image = slice_get system.images.items n ≡ Some (Some image)
 
--- the kernel is as it was, and each number that stood for an image stands for it
+-- the kernel is as before, and each image has its number as before
 pub record Keeps (old new : System) : Type 0 where
   pub kernel : new.kernel ≡ old.kernel
   pub hosted : new.hosted ≡ old.hosted
@@ -45,33 +45,35 @@ pub record Keeps (old new : System) : Type 0 where
 abbrev pub LoadsOrTells : ℕ → Type 0
 LoadsOrTells status = (status ≡ 0) ⊎ ((status ≡ 111) ⊎ ((status ≡ 112) ⊎ (status ≡ 113)))
 
--- where it is done, the bytes spell an image that was checked, and the number stands for it; the kernel and the other images stay
+-- if it is done, the bytes encode an image that the verifier accepts, and the image has this number; the kernel and the other images stay
 abbrev pub IsLoaded : List ℕ → ℕ → ℕ → System → System → Type 0
 IsLoaded bytes n status old new =
     (status ≡ 0 → (image : Parts) × (image_at bytes ≡ Ok image) × StandsFor new n image) × LoadsOrTells status × Keeps old new
 
--- the same of an image whose public routines are to do only what is granted: if one does more, the answer is 116
+-- the same, and the image's public routines do only what is granted; if one does more, the status is 116
 abbrev pub IsLoadedGranted : List ℕ → ℕ → ℕ → ℕ → System → System → Type 0
 IsLoadedGranted bytes grants n status old new =
     (status ≡ 0 → (image : Parts) × (image_at bytes ≡ Ok image) × StandsFor new n image × IsGranted image (effects_in grants))
     × ((status ≡ 116) ⊎ LoadsOrTells status) × Keeps old new
 
--- the bytes spell an image, and a public routine of it has this effect, which is not granted, by the instruction at this place
+-- the bytes encode an image that the verifier accepts. The instruction at this place has this effect, which is not granted: in this public routine, or in one that
+-- it reaches by calls. Each public routine before it does only what is granted
 abbrev pub IsDenied : List ℕ → ℕ → ℕ → ℕ → ℕ → Type 0
 IsDenied bytes grants place r bit =
-    (image : Parts) × (excess : Excess) × (image_at bytes ≡ Ok image) × IsExcess image (effects_in grants) excess × (place ≡ excess.pc)
-    × (r ≡ excess.routine) × (bit ≡ bit_of excess.effect)
+    (image : Parts) × (excess : Excess) × (image_at bytes ≡ Ok image) × IsChecked image × IsExcess image (effects_in grants) excess × (place ≡ excess.pc)
+    × (r ≡ excess.routine) × (bit ≡ bit_of excess.effect) × IsGrantedBelow image (effects_in grants) r
 
--- it is told what the routine does, with those that it calls; or the answer is 114, and there is no such image or routine
+-- the bits are those of the routine's effects, with the effects of the routines that it calls; or the answer is 114, and there is no such image
+-- or routine
 abbrev pub TellsEffects : ℕ → ℕ → ℕ → ℕ → System → System → Type 0
 TellsEffects n r told status old new =
     (new ≡ old)
-    × (status ≡ 0 → (image : Parts) × (effects : Effects) × StandsFor old n image × (told ≡ bits_of effects)
+    × (status ≡ 0 → (image : Parts) × (effects : Effects) × StandsFor old n image × (r < length image.routines) × (told ≡ bits_of effects)
     × ((effect : Effect) → has effects effect ≡ has_effect image effect r))
     × ((status ≡ 0 → ⊥) → (status ≡ 114) × ((image : Parts) → StandsFor old n image → length image.routines ≤ r))
 
--- where it is done, the number stands for nothing from then on; the kernel and the other images stay. Otherwise it stands for nothing, the
--- answer is 114, and nothing changes
+-- if it is done, no image has the number; the kernel and the other images stay. Otherwise the status is 114, no image had the number, and
+-- nothing changes
 abbrev pub IsUnloaded : ℕ → ℕ → System → System → Type 0
 IsUnloaded n status old new =
     (new.kernel ≡ old.kernel) × (new.hosted ≡ old.hosted)
@@ -79,13 +81,13 @@ IsUnloaded n status old new =
     × ((m : ℕ) (image : Parts) → (m ≡ n → ⊥) → StandsFor old m image → StandsFor new m image)
     × ((status ≡ 0 → ⊥) → (status ≡ 114) × (new ≡ old) × ((image : Parts) → StandsFor old n image → ⊥))
 
--- the bytes spell an image, and this is the first instruction that a rule refuses, with the lowest such rule
+-- the bytes encode an image, and this is the first instruction that a rule refuses, with the lowest rule that refuses it
 abbrev pub IsRejected : List ℕ → ℕ → ℕ → Type 0
 IsRejected bytes place rule =
     (image : Parts) × (reject : Reject) × (image_at bytes ≡ Ok image) × FirstRefusal image reject × (place ≡ reject.pc)
     × (rule ≡ rule_number reject.rule)
 
--- 114: the number stands for no image, whose routine admits these words, and to which the kernel lends these blocks
+-- 114: there is no image with this number whose routine admits these words and is lent these blocks
 abbrev pub NotAdmitted : ℕ → ℕ → List ℕ → List ℕ → ℕ → System → Type 0
 NotAdmitted n routine words handles status s =
     (status ≡ 114) × ((image : Parts) → StandsFor s n image → admits image routine words ≡ true
@@ -95,10 +97,10 @@ NotAdmitted n routine words handles status s =
 abbrev pub MayNotRun : ℕ → ℕ → List ℕ → List ℕ → ℕ → System → Type 0
 MayNotRun n routine words handles status s = NotAdmitted n routine words handles status s ⊎ IsPending status s
 
--- the number stands for a checked image, of which the model's run, on these words and with these blocks lent, met no fault and came to
--- such words, such an output at the beginning of the buffer, whose rest stays, so long, and so many steps; whatever is granted, if the
--- routine does only that, what is not granted is as before; nothing was noted before it; what it noted leads a host to what the device holds;
--- and a host that is stopped while it performs that has what the run had as kept in one of its states
+-- an accepted image has the number, and the model's run of its routine, on these words and with these blocks lent, meets no fault. It results in
+-- these words, this output at the beginning of the buffer, whose rest stays, this count and this number of steps. For any grants: if the
+-- routine does only what is granted, what is not granted is as before. Nothing was noted before the run. Its notes, performed on a host's bytes,
+-- result in the device's bytes. If the host stops while it performs them, its file opens as what was committed in one of the run's states
 pub record HasRun (n routine : ℕ) (words handles after room output : List ℕ) (count steps status : ℕ) (old new : System) : Type 0 where
   pub done : status ≡ 0
   pub image : Parts
@@ -121,7 +123,7 @@ pub record HasRun (n routine : ℕ) (words handles after room output : List ℕ)
   pub steps_are : steps ≡ outcome.steps
   pub within : IfSome (slice_get image.routines routine) (λ r. steps ≤ r.budget)
 
--- it ran so; or memory for its notes was refused, and it was not begun
+-- the run was performed; or the allocator refused the memory for its notes, and it did not begin
 abbrev pub RunsOrNot : ℕ → ℕ → List ℕ → List ℕ → List ℕ → List ℕ → List ℕ → ℕ → ℕ → ℕ → System → System → Type 0
 RunsOrNot n routine words handles after room output count steps status old new =
     HasRun n routine words handles after room output count steps status old new
@@ -132,7 +134,7 @@ abbrev pub EndsRun : ℕ → ℕ → List ℕ → List ℕ → List ℕ → List
 EndsRun n routine words handles after room output count steps =
     Done (MayNotRun n routine words handles) (RunsOrNot n routine words handles after room output count steps)
 
--- the same on the kernel that a handle holds
+-- the same on the kernel of a handle
 abbrev pub ServesRun : ℕ → ℕ → List ℕ → List ℕ → List ℕ → List ℕ → List ℕ → ℕ → ℕ → ℕ → Handle → Handle → Type 0
 ServesRun n routine words handles after room output count steps status =
     On (EndsRun n routine words handles after room output count steps status) status
@@ -141,7 +143,7 @@ ServesRun n routine words handles after room output count steps status =
 abbrev pub IsNamed : List ℕ → Routine → Type 0
 IsNamed name routine = take (unwrap_or (text_end routine.name) 16) routine.name ≡ name
 
--- the number stands for an image, whose routine with the other number has this name
+-- there is an image with this number, and its routine r has this name
 abbrev pub HasRoutine : System → ℕ → List ℕ → ℕ → Type 0
 HasRoutine system n name r = (image : Parts) × StandsFor system n image × IsSomeAnd (slice_get image.routines r) (IsNamed name)
 
@@ -149,7 +151,7 @@ HasRoutine system n name r = (image : Parts) × StandsFor system n image × IsSo
 abbrev pub NoneIsNamed : List ℕ → Parts → Type 0
 NoneIsNamed name image = (r : ℕ) → IfSome (slice_get image.routines r) (λ routine. IsNamed name routine → ⊥)
 
--- the call tells the number of the image's routine with this name; or it answers 114, and there is no image or none of its routines has the name
+-- r is the image's routine with this name; or the status is 114, and there is no image or none of its routines has the name
 abbrev pub FindsRoutine : ℕ → List ℕ → ℕ → ℕ → System → System → Type 0
 FindsRoutine n name r status old new =
     (new ≡ old) × (status ≡ 0 → HasRoutine old n name r)

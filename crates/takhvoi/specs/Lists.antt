@@ -1,4 +1,4 @@
--- What calls that list come to.
+-- The results of calls that list handles.
 use Rattle.std.specs.Prelude.{◌≡◌, ℕ, zero, suc, Bool, not, if◌then◌else◌, List, [], ◌∷◌, ◌++◌, length, is_none, Ok, OnOk, Result}
 use Rattle.lmem_raw.specs.Bytes.{with_part}
 use Rattle.geos_terms.specs.Chunks.{chunk_of}
@@ -16,7 +16,7 @@ use Rattle.geos_kernel.specs.View.{IsFileOf, KernelState, memory_of}
 use Rattle.takhvoi.specs.Answers.{IsStatus, ReadsDevice}
 use Rattle.takhvoi.specs.declared.system.System.{System}
 
--- the numbers below n of which this is so, in order
+-- the numbers below n that pass the test, in order
 unfoldable pub those_below : (ℕ → Bool) → ℕ → List ℕ
 those_below test zero = []
 those_below test (suc n) = if test n then those_below test n ++ n ∷ [] else those_below test n
@@ -33,7 +33,7 @@ is_listed memory h = not (is_none (listed_at memory h))
 abbrev pub is_chunk : Name → Memory → ℕ → Bool
 is_chunk name memory c = not (is_none (chunk_of (chunks_at memory name) c))
 
--- these were found: it is told how many they are, and as many as there is room for stand at the beginning of a buffer, whose rest is as it was
+-- the count is the number of these handles, and as many as there is room for are at the beginning of a buffer, whose rest is as before
 pub record Fills (found : List ℕ) (count : ℕ) (old new : List ℕ) : Type 0 where
   pub count_is : count ≡ length found
   pub written : new ≡ with_part old 0 found
@@ -46,7 +46,7 @@ past_handles = 1025
 abbrev pub past_chunks : ℕ
 past_chunks = 65535
 
--- all numbers below one of which this is so in the kernel's memory are listed, whatever VM file the model knows
+-- all numbers below `past` that pass the test in the kernel's memory are listed, for any VM file of the model
 abbrev pub Lists : (Memory → ℕ → Bool) → ℕ → KernelState → ℕ → List ℕ → List ℕ → Type 0
 Lists test past s count old new = (f : VmFile) → IsFileOf (Unit {0}) s f → Fills (those_below (test (memory_of s f)) past) count old new
 
@@ -54,7 +54,7 @@ Lists test past s count old new = (f : VmFile) → IsFileOf (Unit {0}) s f → F
 abbrev pub looks : Call (Unit {0})
 looks choice memory = tells memory tt
 
--- it is done, the kernel has changed nothing that the model has, nor its VM file, nor its device, and this is so
+-- the call is done, the model, the VM file and the device are as before, and the fact holds
 abbrev pub IsFound : Type 0 → ℕ → System → System → Type 0
 IsFound fact status old new = (status ≡ 0) × Calls (Unit {0}) looks (Ok tt) old.kernel.core new.kernel.core
     × LeavesVm old.kernel new.kernel × fact
@@ -63,7 +63,7 @@ IsFound fact status old new = (status ≡ 0) × Calls (Unit {0}) looks (Ok tt) o
 abbrev pub brings : ℕ → Call (Unit {0})
 brings group choice memory = does memory (no_group memory group ∷ locks_full memory (vm group) ∷ bringing choice memory group) memory
 
--- it answers so, and where it answers, this is so
+-- the reply is that of `brings`, and if it is no refusal, the fact holds
 abbrev pub IsBrought : ℕ → Type 0 → ℕ → System → System → Type 0
 IsBrought group fact status old new = ReadsDevice old new
     × ((reply : Result (Unit {0}) Refusal) × Calls (Unit {0}) (brings group) reply old.kernel.core new.kernel.core × IsStatus reply status

@@ -3,6 +3,6 @@ use Rattle.std.specs.Prelude.{ℕ, ◌%◌, nat_lt, if◌then◌else◌}
 use Rattle.geos_terms.specs.declared.name.Name.{Name}
 use Rattle.geos_terms.specs.Names.{mem, vm}
 
--- the block with a number: its handle, and 65,536 more where it is one of the VM file
+-- the block with a number: a handle of memory, or 65,536 more than a handle of the VM file
 abbrev pub name_of : ℕ → Name
 name_of block = if nat_lt block 65536 then mem block else vm (block % 65536)

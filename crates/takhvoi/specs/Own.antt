@@ -1,4 +1,5 @@
--- When a number of the library's own comes, from 100 on. 100 comes only where a handle holds no kernel, and 111 may come at any time.
+-- When a call returns a number of the library's own, from 100 on. It returns 100 only if the handle has no kernel; it may return 111 at any
+-- time, since the kit has no predicate for a refusal of the allocator.
 use Rattle.std.specs.Prelude.{◌≡◌, ◌<◌, ◌+◌, ◌⊎◌, ℕ, [], false}
 use Rattle.block_handles.specs.Names.{slot_of}
 use Rattle.block_handles.specs.Store.{locks_of}
@@ -12,7 +13,7 @@ use Rattle.takhvoi.specs.declared.system.System.{System}
 use Rattle.takhvoi.specs.declared.handle.Handle.{Handle}
 use Rattle.takhvoi.specs.Answers.{ChangesIn, Served}
 
--- none of these numbers comes
+-- never
 abbrev pub NoOwn : ℕ → System → Type 0
 NoOwn status s = ⊥
 
@@ -28,15 +29,15 @@ NotMarked name status s = (status ≡ 102) × (name.owner ≡ Vm) × (is_marked_
 abbrev pub FileLocked : ℕ → System → Type 0
 FileLocked status s = (status ≡ 103) × (NoneLocked s.kernel.core.blocks → ⊥)
 
--- 105: so many bytes from an offset on reach past all that a chunk may have
+-- 105: so many bytes from an offset on end past 65,535
 abbrev pub PastChunk : ℕ → ℕ → ℕ → Type 0
 PastChunk at n status = (status ≡ 105) × (65535 < at + n)
 
--- 106: something is noted that the host has not performed
+-- 106: the host has not performed every note
 abbrev pub IsPending : ℕ → System → Type 0
 IsPending status s = (status ≡ 106) × (journal_of s.kernel.device ≡ [] → ⊥)
 
--- 106: the block is one of the VM file, and something is noted that the host has not performed
+-- 106: the block is one of the VM file, and the host has not performed every note
 abbrev pub IsPendingIn : Name → ℕ → System → Type 0
 IsPendingIn name status s = (name.owner ≡ Vm) × IsPending status s
 

@@ -1,4 +1,4 @@
--- What calls on texts and images give.
+-- The results of calls on texts and images.
 use Rattle.std.specs.Prelude.{◌≡◌, ◌<◌, ◌≤◌, ◌⊎◌, ℕ, true, List, length, Ok, slice_index_or}
 use Rattle.lmem_raw.specs.Bytes.{with_part}
 use Rattle.geos_image.specs.Parts.{Parts}
@@ -11,25 +11,25 @@ use Rattle.geos_verify.specs.Rules.{FirstRefusal, IsChecked}
 use Rattle.geos_asm.specs.Assembling.{HasNoRows, IsAssembled, IsWhyNoImage}
 use Rattle.geos_asm.specs.declared.error.AssembleError.TheVariants.{BadLine}
 
--- bytes were written at the beginning of a buffer that has room for them, and the rest of it is as it was; it is told how many they are
+-- the bytes were written at the beginning of a buffer with room for them, the rest of it is as before, and their number is reported
 pub record IsPutInto (bytes : List ℕ) (told : ℕ) (old new : List ℕ) : Type 0 where
   pub fits : length bytes ≤ length old
   pub written : new ≡ with_part old 0 bytes
   pub count : told ≡ length bytes
 
--- what was wanted was written so
+-- bytes with this property were written like this
 abbrev pub Gives : (List ℕ → Type 0) → ℕ → List ℕ → List ℕ → Type 0
-Gives wanted told old new = (bytes : List ℕ) × wanted bytes × IsPutInto bytes told old new
+Gives fits told old new = (bytes : List ℕ) × fits bytes × IsPutInto bytes told old new
 
--- what was wanted has so many bytes, more than there is room for
+-- bytes with this property are so many, and there is room for fewer
 abbrev pub IsLonger : (List ℕ → Type 0) → ℕ → ℕ → Type 0
-IsLonger wanted told room = (bytes : List ℕ) × wanted bytes × (told ≡ length bytes) × (room < length bytes)
+IsLonger fits told room = (bytes : List ℕ) × fits bytes × (told ≡ length bytes) × (room < length bytes)
 
 -- 0, 111, 112 or 115
 abbrev pub GivesOrTells : ℕ → Type 0
 GivesOrTells status = (status ≡ 0) ⊎ ((status ≡ 111) ⊎ ((status ≡ 112) ⊎ (status ≡ 115)))
 
--- the bytes spell an image of the text, with rows at its key places
+-- the bytes encode an image of the text, with rows at its key places
 abbrev pub IsImageOf : List ℕ → List ℕ → Type 0
 IsImageOf text bytes = (image : Parts) × (image_at bytes ≡ Ok image) × IsAssembled text image × (image.keyed ≡ true)
 
@@ -37,7 +37,7 @@ IsImageOf text bytes = (image : Parts) × (image_at bytes ≡ Ok image) × IsAss
 abbrev pub HasFaultAt : List ℕ → ℕ → Type 0
 HasFaultAt text line = (bad : fault.BadLine) × IsWhyNoImage text (BadLine bad) × (line ≡ bad.line)
 
--- the bytes spell an image, and this is its listing
+-- the bytes encode an image, and the text is its listing
 abbrev pub IsListedAs : List ℕ → List ℕ → Type 0
 IsListedAs bytes text = (image : Parts) × (image_at bytes ≡ Ok image) × (text ≡ listing image)
 

@@ -1,4 +1,4 @@
-//! Bytes of chunks, and of elements of arrays, are copied out and in.
+//! Copying of bytes from and to chunks and elements of arrays.
 
 ghost use Rattle.std.specs.Prelude.{◌≡◌, ◌≢◌, ◌+◌, ◌<◌, ◌≤◌, length, IfNone, IfSome};
 ghost use Rattle.geos_calls.specs.ArrayCalls as arrays;
@@ -18,7 +18,7 @@ use geos_calls::Refer;
 use geos_kernel::Name;
 use std::alloc::Global;
 
-/// The end of a range of bytes, if a chunk can have so many.
+/// The end of a range of bytes, if it is at most 65,535.
 fn end_of(at: u16, len: usize) -> Option<u16>
     ensures some { IfSome result (λ end. end ≡ at + len) }
     ensures none { IfNone result (65535 < at + len) }
@@ -32,7 +32,8 @@ fn end_of(at: u16, len: usize) -> Option<u16>
 
 fn read_in(system: &mut System, name: Name, refer: Refer, at: u16, into: &mut [u8]) -> u32
     requires { at + length into.old ≤ least refer }
-    ensures { Done (MayNotRead name at (length into.old)) (IsCopied (refer_row name refer) at into.new) result system.old system.new }
+    ensures done { Done (MayNotRead name at (length into.old)) (IsCopied (refer_row name refer) at into.new) result system.old system.new }
+    ensures kept { (result ≡ 0 → ⊥) → into.new ≡ into.old }
 {
     if system.kernel.locks(name) == 0 {
         return NOT_LOCKED;
@@ -56,7 +57,8 @@ fn read(
     into: &mut [u8],
 ) -> u32
     requires { at + length into.old ≤ least refer }
-    ensures { Served (MayNotRead (name_of block) at (length into.old)) (IsCopied (refer_row (name_of block) refer) at into.new) result handle.old handle.new }
+    ensures served { Served (MayNotRead (name_of block) at (length into.old)) (IsCopied (refer_row (name_of block) refer) at into.new) result handle.old handle.new }
+    ensures kept { (result ≡ 0 → ⊥) → into.new ≡ into.old }
 {
     let Some(mut system) = take(alloc, handle) else {
         return NO_KERNEL;
@@ -102,7 +104,7 @@ fn write(alloc: Global, handle: &mut Handle, block: u32, refer: Refer, at: u16, 
     status
 }
 
-/// Says that no chunk has so many bytes, where the handle holds a kernel.
+/// `BAD_SIZE`, if the handle has a kernel.
 fn refuse(alloc: Global, handle: &mut Handle) -> u32
     ensures same { On (λ old new. new ≡ old) result handle.old handle.new }
     ensures own { handle.old.live ≢ 0 → result ≡ 105 }
@@ -114,7 +116,7 @@ fn refuse(alloc: Global, handle: &mut Handle) -> u32
     BAD_SIZE
 }
 
-/// Copies bytes of a chunk out, from an offset on, as many as `into` has.
+/// Copies bytes of a chunk out, from an offset on, as many as `into` has. If it is not done, `into` is as before.
 #[unsafe(no_mangle)]
 pub extern "C" fn takhvoi_read(
     alloc: Global,
@@ -124,7 +126,8 @@ pub extern "C" fn takhvoi_read(
     at: u16,
     into: &mut [u8],
 ) -> u32
-    ensures { ServesRead (name_of block) (table.deref (name_of block) chunk) at (length into.old) into.new result handle.old handle.new }
+    ensures served { ServesRead (name_of block) (table.deref (name_of block) chunk) at (length into.old) into.new result handle.old handle.new }
+    ensures kept { (result ≡ 0 → ⊥) → into.new ≡ into.old }
 {
     match end_of(at, into.len()) {
         Some(end) => read(
@@ -139,7 +142,7 @@ pub extern "C" fn takhvoi_read(
     }
 }
 
-/// Copies bytes of an element of an array out, from an offset on, as many as `into` has.
+/// Copies bytes of an element of an array out, from an offset on, as many as `into` has. If it is not done, `into` is as before.
 #[unsafe(no_mangle)]
 pub extern "C" fn takhvoi_caread(
     alloc: Global,
@@ -150,7 +153,8 @@ pub extern "C" fn takhvoi_caread(
     at: u16,
     into: &mut [u8],
 ) -> u32
-    ensures { ServesRead (name_of block) (arrays.caelt (name_of block) chunk index) at (length into.old) into.new result handle.old handle.new }
+    ensures served { ServesRead (name_of block) (arrays.caelt (name_of block) chunk index) at (length into.old) into.new result handle.old handle.new }
+    ensures kept { (result ≡ 0 → ⊥) → into.new ≡ into.old }
 {
     match end_of(at, into.len()) {
         Some(end) => read(
@@ -184,7 +188,7 @@ fn measure(system: &mut System, name: Name, refer: Refer, told: &mut u16) -> u32
     }
 }
 
-/// Tells how many bytes the value refers to.
+/// Writes to `told` how many bytes the value refers to.
 fn tell_length(alloc: Global, handle: &mut Handle, block: u32, refer: Refer, told: &mut u16) -> u32
     ensures { Served (NotLocked (name_of block)) (IsMeasured (refer_row (name_of block) refer) told.new) result handle.old handle.new }
 {
@@ -196,7 +200,7 @@ fn tell_length(alloc: Global, handle: &mut Handle, block: u32, refer: Refer, tol
     status
 }
 
-/// Tells the length of an element of an array.
+/// Writes the length of an element of an array to `told`.
 #[unsafe(no_mangle)]
 pub extern "C" fn takhvoi_casize(
     alloc: Global,
@@ -221,7 +225,7 @@ pub extern "C" fn takhvoi_casize(
     )
 }
 
-/// Stores bytes into a chunk, from an offset on. A block of the VM file is marked before.
+/// Stores bytes into a chunk, from an offset on. A block of the VM file has to be marked.
 #[unsafe(no_mangle)]
 pub extern "C" fn takhvoi_write(
     alloc: Global,
@@ -246,7 +250,7 @@ pub extern "C" fn takhvoi_write(
     }
 }
 
-/// Stores bytes into an element of an array, from an offset on. A block of the VM file is marked before.
+/// Stores bytes into an element of an array, from an offset on. A block of the VM file has to be marked.
 #[unsafe(no_mangle)]
 pub extern "C" fn takhvoi_cawrite(
     alloc: Global,

@@ -13,7 +13,7 @@ use crate::handle::Handle;
 use geos_calls::{Ask, Change, Make};
 use std::alloc::Global;
 
-/// Makes an empty array in a new chunk, of elements of so many bytes each, or of sizes of their own where that is 0, and tells the chunk's handle.
+/// Makes an empty array in a new chunk, of elements of so many bytes, or of varying sizes for 0, and writes the chunk's handle to `told`.
 #[unsafe(no_mangle)]
 pub extern "C" fn takhvoi_canew(
     alloc: Global,
@@ -28,7 +28,7 @@ pub extern "C" fn takhvoi_canew(
     make(alloc, handle, block, Make::Canew { element_size }, told)
 }
 
-/// Puts an element of zeros behind the others, of so many bytes where sizes vary.
+/// Appends an element of zeros, of so many bytes if sizes vary.
 #[unsafe(no_mangle)]
 pub extern "C" fn takhvoi_caadd(
     alloc: Global,
@@ -43,7 +43,7 @@ pub extern "C" fn takhvoi_caadd(
     change(alloc, handle, block, Change::Caadd { c: chunk, n: len })
 }
 
-/// Puts an element of zeros at an index, of so many bytes where sizes vary.
+/// Inserts an element of zeros at an index, of so many bytes if sizes vary.
 #[unsafe(no_mangle)]
 pub extern "C" fn takhvoi_cains(
     alloc: Global,
@@ -68,7 +68,7 @@ pub extern "C" fn takhvoi_cains(
     )
 }
 
-/// Takes an element out.
+/// Removes an element.
 #[unsafe(no_mangle)]
 pub extern "C" fn takhvoi_cadel(
     alloc: Global,
@@ -82,7 +82,7 @@ pub extern "C" fn takhvoi_cadel(
     change(alloc, handle, block, Change::Cadel { c: chunk, i: index })
 }
 
-/// Takes all elements out.
+/// Removes all elements.
 #[unsafe(no_mangle)]
 pub extern "C" fn takhvoi_cazero(alloc: Global, handle: &mut Handle, block: u32, chunk: u16) -> u32
     ensures { ServesChange (name_of block) (IsAnswer (table.cazero (name_of block) chunk)) result handle.old handle.new }
@@ -90,7 +90,7 @@ pub extern "C" fn takhvoi_cazero(alloc: Global, handle: &mut Handle, block: u32,
     change(alloc, handle, block, Change::Cazero { c: chunk })
 }
 
-/// Gives an element so many bytes, where sizes vary.
+/// Changes the length of an element, if sizes vary.
 #[unsafe(no_mangle)]
 pub extern "C" fn takhvoi_caresize(
     alloc: Global,
@@ -115,7 +115,7 @@ pub extern "C" fn takhvoi_caresize(
     )
 }
 
-/// Tells how many elements an array has.
+/// Writes the number of elements of an array to `told`.
 #[unsafe(no_mangle)]
 pub extern "C" fn takhvoi_cacount(
     alloc: Global,

@@ -24,7 +24,7 @@ fn mnew(system: &mut System, told: &mut u16) -> u32
     tell(system.kernel.mnew(), told)
 }
 
-/// Makes a block of 64 bytes, locks it, and tells its handle.
+/// Makes a block of 64 bytes, locks it, and writes its handle to `told`.
 #[unsafe(no_mangle)]
 pub extern "C" fn takhvoi_mnew(alloc: Global, handle: &mut Handle, told: &mut u16) -> u32
     ensures served { Served NoOwn (IsTold table.mnew told.new) result handle.old handle.new }
@@ -100,7 +100,7 @@ pub extern "C" fn takhvoi_mfree(alloc: Global, handle: &mut Handle, block: u16) 
     status
 }
 
-/// Tells how often a block of either owner, or a group, is locked; 0 where there is none.
+/// Writes the lock count of a block of either owner, or of a group, to `told`; 0 if there is none.
 #[unsafe(no_mangle)]
 pub extern "C" fn takhvoi_locks(
     alloc: Global,
@@ -118,7 +118,7 @@ pub extern "C" fn takhvoi_locks(
     DONE
 }
 
-/// Tells whether a block of the VM file, or a group, is marked: 1 or 0; 0 where there is none.
+/// Writes to `told` whether a block of the VM file, or a group, is marked: 1 or 0; 0 if there is none.
 #[unsafe(no_mangle)]
 pub extern "C" fn takhvoi_marked(
     alloc: Global,

@@ -26,7 +26,7 @@ use geos_calls::{Ask, Change, Make};
 use geos_kernel::{Name, Owner};
 use std::alloc::Global;
 
-/// Whether the bytes of a block may be changed: where it is one of the VM file, it is marked.
+/// Whether the bytes of a block may be changed: a block of memory, or a marked block of the VM file.
 pub(crate) fn may_change(system: &System, name: Name) -> bool
     ensures yes { IsTrue result → MayChange system.now.kernel.core name }
     ensures no { IsFalse result → (name.owner ≡ owner.Vm) × (is_marked_in (held_at system.now.kernel.core.vm name.h) ≡ false) }
@@ -37,7 +37,7 @@ pub(crate) fn may_change(system: &System, name: Name) -> bool
     }
 }
 
-/// Whether the host has performed all that is noted, or the block is none of the VM file.
+/// Whether the host has performed every noted step, or the block is one of memory.
 pub(crate) fn is_settled(system: &System, name: Name) -> bool
     ensures yes { IsTrue result → name.owner ≡ owner.Vm → journal_of system.now.kernel.device ≡ [] }
     ensures no { IsFalse result → (name.owner ≡ owner.Vm) × (journal_of system.now.kernel.device ≡ [] → ⊥) }
@@ -95,7 +95,7 @@ fn make_in(system: &mut System, name: Name, make: Make, told: &mut u16) -> u32
     tell(system.kernel.make_chunk(name, make), told)
 }
 
-/// Makes a chunk in a block, as the value says, and tells its handle.
+/// Makes a chunk in a block, as the value says, and writes its handle to `told`.
 pub(crate) fn make(
     alloc: Global,
     handle: &mut Handle,
@@ -123,7 +123,7 @@ fn ask_in(system: &mut System, name: Name, ask: Ask, told: &mut u16) -> u32
     tell(system.kernel.ask(name, ask), told)
 }
 
-/// Tells a number of the chunks of a block, as the value says.
+/// Writes a number of the chunks of a block to `told`, as the value says.
 pub(crate) fn ask(alloc: Global, handle: &mut Handle, block: u32, ask: Ask, told: &mut u16) -> u32
     ensures { Served (NotLocked (name_of block)) (IsTold (ask_row (name_of block) ask) told.new) result handle.old handle.new }
 {
@@ -135,7 +135,7 @@ pub(crate) fn ask(alloc: Global, handle: &mut Handle, block: u32, ask: Ask, told
     status
 }
 
-/// Makes a chunk of zero bytes, and tells its handle.
+/// Makes a chunk of zero bytes, and writes its handle to `told`.
 #[unsafe(no_mangle)]
 pub extern "C" fn takhvoi_lalloc(
     alloc: Global,
@@ -158,7 +158,7 @@ pub extern "C" fn takhvoi_lfree(alloc: Global, handle: &mut Handle, block: u32, 
     change(alloc, handle, block, Change::Lfree { c: chunk })
 }
 
-/// Gives a chunk so many bytes: its first ones that fit, and zeros behind them.
+/// Changes a chunk's length: its first bytes stay, and zeros come after them.
 #[unsafe(no_mangle)]
 pub extern "C" fn takhvoi_lrealloc(
     alloc: Global,
@@ -222,7 +222,7 @@ pub extern "C" fn takhvoi_ldel(
     )
 }
 
-/// Moves the chunks of a block together, so that its free bytes are in one piece.
+/// Moves the chunks of a block together: its free bytes are then in one piece.
 #[unsafe(no_mangle)]
 pub extern "C" fn takhvoi_lcontract(alloc: Global, handle: &mut Handle, block: u32) -> u32
     ensures served { ServesChange (name_of block) (IsAnswer (table.lcontract (name_of block))) result handle.old handle.new }
@@ -231,7 +231,7 @@ pub extern "C" fn takhvoi_lcontract(alloc: Global, handle: &mut Handle, block: u
     change(alloc, handle, block, Change::Lcontract)
 }
 
-/// Tells the length of a chunk.
+/// Writes the length of a chunk to `told`.
 #[unsafe(no_mangle)]
 pub extern "C" fn takhvoi_lsize(
     alloc: Global,

@@ -1,4 +1,4 @@
-//! Images and texts are explained.
+//! Explanations of images and texts.
 
 ghost use Rattle.std.specs.Prelude.{◌≡◌, ◌<◌, ◌⊎◌, Err, IfOk, length, slice_index_or};
 ghost use Rattle.geos_asm.specs.Assembling.{IsAssembled};
@@ -52,17 +52,17 @@ pub extern "C" fn takhvoi_explain(
     }
 }
 
-/// What there is to say of a text.
+/// The explanation of a text.
 #[derive(Drop)]
 struct Said {
     text: Vec<u8>,
-    /// The line of the first thing that is wrong; 0 if nothing is.
+    /// The line of the first fault or refusal; 0 if there is none.
     line: u64,
-    /// The column in that line, from 1; 0 if all of the line is meant.
+    /// The column in that line, from 1; 0 for the whole line.
     column: u64,
 }
 
-/// The number in front of which a sentence says ` at column `, in its first line; otherwise 0.
+/// The number after ` at column ` in the first line of a text; otherwise 0.
 fn column_in(told: &[u8]) -> u64 {
     const COLUMN: &[u8] = b" at column ";
     let (line, _behind) = first_line(told);
@@ -94,7 +94,7 @@ fn line_of(lines: &[u32], pc: u16) -> u64
     }
 }
 
-/// What there is to say of a text that has an image, and of the image.
+/// The explanation of a text that has an image.
 fn of_assembled(alloc: Global, text: &[u8], assembled: Assembled) -> Result<Said, AllocError>
     requires image { IsAssembled text.now assembled.image }
     requires lines { assembled.lines.items ≡ instr_lines text.now }
@@ -115,7 +115,7 @@ fn of_assembled(alloc: Global, text: &[u8], assembled: Assembled) -> Result<Said
     }
 }
 
-/// What there is to say of a text.
+/// The explanation of a text.
 fn of_text(alloc: Global, text: &[u8]) -> Result<Said, AllocError>
     ensures { IfOk result (λ said. IsJudged text.now said.line) }
 {
@@ -140,8 +140,8 @@ fn of_text(alloc: Global, text: &[u8]) -> Result<Said, AllocError>
 }
 
 /// The lines of a text with what is known at each instruction, and why its image is refused, if it is; or a line on each faulty line;
-/// or why no rows are found. `told` is how many bytes that has, even if the buffer is too short; `line` and `column` are those of the
-/// first thing that is wrong, 0 if nothing is. A column is 0 if a whole line is meant.
+/// or why no rows are found. `told` is the number of bytes, also if the buffer is too short; `line` and `column` are those of the first fault
+/// or refusal, 0 if there is none. The column is 0 for a whole line.
 #[unsafe(no_mangle)]
 pub extern "C" fn takhvoi_explain_text(
     alloc: Global,

@@ -1,11 +1,12 @@
 //! What routines do to what is not their own, as bits, and images that do only what is granted.
 
 ghost use Rattle.std.specs.Prelude.{◌≡◌, ◌≤◌, ◌<◌, Err, IfNone, IfSome};
-ghost use Rattle.geos_grants.specs.Grants.{IsExcess, IsGranted};
+ghost use Rattle.geos_grants.specs.Grants.{IsExcess, IsGranted, IsGrantedBelow};
 ghost use Rattle.takhvoi.specs.Answers.{On};
 ghost use Rattle.takhvoi.specs.Bits.{bit_of, bit_of_slot, bits_of, effects_in, flag_bit, has_bit, slot_bits, slots_in};
 ghost use Rattle.takhvoi.specs.Images.{IsDenied, IsLoadedGranted, IsRejected, TellsEffects};
 ghost use Rattle.geos_image.specs.Reading.{image_at};
+ghost use Rattle.geos_verify.specs.Rules.{IsChecked};
 
 use crate::handle::Handle;
 use crate::held::{put, take};
@@ -116,11 +117,15 @@ fn effects_in(bits: u32) -> Effects
     }
 }
 
-/// Something that a public routine does and that is not granted.
+/// The first public routine that does more than is granted, with an effect that is not granted and an instruction that has it.
 fn excess_of(checked: &Checked, grants: u32) -> Option<Excess>
+    ensures accepted { IsChecked checked.now }
     ensures none { IfNone result (IsGranted checked.now (effects_in grants)) }
     ensures some { IfSome result (IsExcess checked.now (effects_in grants)) }
+    ensures first { IfSome result (λ excess. IsGrantedBelow checked.now (effects_in grants) excess.routine) }
 {
+    // the verifier accepts it
+    let _image = checked.image();
     match grant(checked, &effects_in(grants)) {
         Ok(_) => None,
         Err(excess) => Some(excess),
@@ -158,8 +163,9 @@ fn load_granted_in(
     }
 }
 
-/// Loads an image as `takhvoi_load` does, if its public routines, with those that they call, have no effects but those whose bits are
-/// set in `grants`. Otherwise tells a public routine, the pc of an instruction with an effect that is not granted, and its bit.
+/// Loads an image as `takhvoi_load` does, if each effect of its public routines, and of those that they call, has its bit in `grants`.
+/// Otherwise it returns `NOT_GRANTED`, and writes the first public routine that does more, the pc of an instruction with an effect that is
+/// not granted, and the bit of that effect.
 #[unsafe(no_mangle)]
 pub extern "C" fn takhvoi_load_granted(
     alloc: Global,
@@ -209,7 +215,8 @@ fn effects_in_image(system: &System, number: u32, routine: u16, effects: &mut u3
     DONE
 }
 
-/// Tells the effects of a routine of an image, with those of the routines that it calls, as bits.
+/// Writes the effects of a routine of an image, with those of the routines that it calls, as bits. `NOT_ADMITTED` if there is no such image
+/// or routine.
 #[unsafe(no_mangle)]
 pub extern "C" fn takhvoi_effects(
     alloc: Global,

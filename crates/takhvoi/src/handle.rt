@@ -1,4 +1,4 @@
-//! What C has of a kernel.
+//! The handle by which C has a kernel.
 
 ghost use Rattle.std.specs.Prelude.{◌≡◌, ◌≢◌};
 ghost use Rattle.takhvoi.specs.declared.system.System.{System};
@@ -12,7 +12,7 @@ use std::alloc::Global;
 use std::marker::Model;
 use std::ptr;
 
-/// A kernel with what runs over it, by a pointer; none where `live` is 0.
+/// A pointer to a kernel and what runs over it; none if `live` is 0.
 #[repr(C)]
 #[derive(Drop)]
 pub struct Handle {
@@ -38,7 +38,7 @@ impl Handle {
         }
     }
 
-    /// A handle that holds what the box held.
+    /// A handle with the value of the box.
     pub(crate) fn of(loose: Loose<System, Global>) -> Handle
         ensures live { result.live ≡ 1 }
         ensures value { result.value ≡ loose.value }
@@ -51,7 +51,7 @@ impl Handle {
         }
     }
 
-    /// What is held.
+    /// The box, taken apart.
     pub(crate) fn into_loose(self) -> Loose<System, Global>
         requires { self.live ≢ 0 }
         ensures { result.value ≡ self.value }
@@ -63,7 +63,7 @@ impl Handle {
         }
     }
 
-    /// The number that says whether something is held, and the handle itself.
+    /// The number `live`, and the handle itself.
     pub(crate) fn look(self) -> (u32, Handle)
         ensures live { result.0 ≡ self.live }
         ensures handle { result.1 ≡ self }

@@ -1,4 +1,4 @@
-//! What a handle holds is taken out, and put back.
+//! The kernel of a handle is taken out, and put back.
 
 ghost use Rattle.std.specs.Prelude.{◌≡◌, ◌≢◌, IfNone, IfSome};
 
@@ -8,7 +8,7 @@ use crate::system::System;
 use std::alloc::Global;
 use std::mem;
 
-/// Takes out what a handle holds.
+/// Takes the kernel out of a handle, if it has one.
 pub(crate) fn take(alloc: Global, handle: &mut Handle) -> Option<Box<System>>
     ensures some { IfSome result (λ system. (handle.old.live ≢ 0) × (system.value ≡ handle.old.value)) }
     ensures none { IfNone result (handle.old.live ≡ 0) }
@@ -22,7 +22,7 @@ pub(crate) fn take(alloc: Global, handle: &mut Handle) -> Option<Box<System>>
     Some(held.into_loose().into_box())
 }
 
-/// Puts it into a handle that holds nothing.
+/// Puts the kernel into an empty handle.
 pub(crate) fn put(handle: &mut Handle, system: Box<System>)
     requires { handle.old.live ≡ 0 }
     ensures live { handle.new.live ≡ 1 }

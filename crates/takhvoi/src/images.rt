@@ -1,4 +1,4 @@
-//! Images are loaded, and their routines run.
+//! Loading of images, and running of their routines.
 
 ghost use Rattle.std.specs.Option.{option_copied};
 ghost use Rattle.std.specs.Prelude.{◌≡◌, ◌≤◌, ◌⊎◌, ℕ, true, Ok, Err, Some, IfErr, IfOk, IfNone, IfSome, IsSomeAnd, length, slice_get};
@@ -28,10 +28,10 @@ use granted_runs::{RoutineCall, run_granted};
 use std::alloc::Global;
 use vm_file::Device;
 
-/// The most images that are kept at once.
+/// The most images that are loaded at once.
 const MOST_IMAGES: usize = 65_536;
 
-/// The lowest number that stands for no image.
+/// The lowest number without an image.
 #[tactic(auto, using(crate::proofs::Numbers::none_past, crate::proofs::Numbers::none_there))]
 fn lowest_free(images: &Vec<Option<Checked>>) -> usize
     ensures free { (image : Parts) → slice_get images.now.items result ≡ Some (Some image) → ⊥ }
@@ -45,7 +45,7 @@ fn lowest_free(images: &Vec<Option<Checked>>) -> usize
     images.len()
 }
 
-/// Puts an image behind the others.
+/// Appends an image to the others.
 #[tactic(auto, using(crate::proofs::Numbers::stays_behind, crate::proofs::Numbers::is_last))]
 fn append(images: &mut Vec<Option<Checked>>, checked: Checked, number: &mut u32) -> u32
     ensures stands { result ≡ 0 → slice_get images.new.items number.new ≡ Some (Some checked) }
@@ -63,7 +63,7 @@ fn append(images: &mut Vec<Option<Checked>>, checked: Checked, number: &mut u32)
     DONE
 }
 
-/// Gives an image the lowest number that is free.
+/// Stores an image under the lowest free number. `NO_MEMORY` if there are 65,536 already, or if the allocator refuses.
 #[tactic(auto, using(crate::proofs::Numbers::set_stays, crate::proofs::Numbers::set_is))]
 pub(crate) fn keep(images: &mut Vec<Option<Checked>>, checked: Checked, number: &mut u32) -> u32
     ensures stands { result ≡ 0 → slice_get images.new.items number.new ≡ Some (Some checked) }
@@ -89,7 +89,7 @@ fn number_of(rule: Rule) -> u32
     rule as u32
 }
 
-/// The image that bytes spell, if the verifier accepts it; else the number that says why not.
+/// The image that bytes encode, if the verifier accepts it; otherwise the status.
 pub(crate) fn accepted(
     alloc: Global,
     bytes: &[u8],
@@ -137,8 +137,8 @@ fn load_in(
     }
 }
 
-/// Reads and checks the image that bytes spell, and tells its number; or the offset of the first faulty byte; or the first pc
-/// that is refused, and the lowest rule that refuses there.
+/// Reads and checks the image that bytes encode, and writes its number; or, to `place`, the offset of the first faulty byte, or the first
+/// refused pc, with the lowest rule that refuses it.
 #[unsafe(no_mangle)]
 pub extern "C" fn takhvoi_load(
     alloc: Global,
@@ -172,7 +172,7 @@ fn unload_in(system: &mut System, number: u32) -> u32
     DONE
 }
 
-/// Frees an image, whose number is given again.
+/// Frees an image; a later image may get its number.
 #[unsafe(no_mangle)]
 pub extern "C" fn takhvoi_unload(alloc: Global, handle: &mut Handle, number: u32) -> u32
     ensures { On (IsUnloaded number result) result handle.old handle.new }
@@ -185,7 +185,7 @@ pub extern "C" fn takhvoi_unload(alloc: Global, handle: &mut Handle, number: u32
     status
 }
 
-/// The image that a number stands for.
+/// The image with a number.
 pub(crate) fn image_of(images: &Vec<Option<Checked>>, number: u32) -> Option<&Checked>
     ensures some { IfSome (option_copied result) (λ image. slice_get images.now.items number ≡ Some (Some image)) }
     ensures none { IfNone (option_copied result) ((image : Parts) → slice_get images.now.items number ≡ Some (Some image) → ⊥) }
@@ -270,9 +270,10 @@ fn run_in(
     DONE
 }
 
-/// Runs a public routine of an image on these words, which become those at its return. It is lent the blocks of the VM file that
-/// the handles name, one for each slot that it borrows, and 0 for the others: these blocks are locked, and no others of the file.
-/// The first words that it puts out go into `output`; `count` tells how many it put out, `steps` how many instructions it took.
+/// Runs a public routine of an image on these words, and writes the words at its return to them. It is lent the blocks of the VM file with these
+/// handles, one for each slot that it borrows, and 0 for each other slot: these blocks are locked, and no others of the file. Its first output
+/// words are written to `output`; `count` is the number of its output words, `steps` of its instructions. If the run does not begin, `words` and
+/// `output` are as before.
 #[unsafe(no_mangle)]
 pub extern "C" fn takhvoi_run(
     alloc: Global,
@@ -332,7 +333,7 @@ fn routine_in(system: &System, number: u32, name: &[u8], routine: &mut u16) -> u
     }
 }
 
-/// Tells the number of the routine of an image with a name.
+/// Writes the number of the routine of an image with a name to `routine`. `NOT_ADMITTED` if there is no such image or routine.
 #[unsafe(no_mangle)]
 pub extern "C" fn takhvoi_routine(
     alloc: Global,

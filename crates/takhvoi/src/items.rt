@@ -28,7 +28,7 @@ fn gnew(system: &mut System, told: &mut u16) -> u32
     tell(system.kernel.gnew(), told)
 }
 
-/// Makes a group, marks it, and tells its handle.
+/// Makes a group, marks it, and writes its handle to `told`.
 #[unsafe(no_mangle)]
 pub extern "C" fn takhvoi_gnew(alloc: Global, handle: &mut Handle, told: &mut u16) -> u32
     ensures served { Served IsPending (Changes (IsTold table.gnew told.new)) result handle.old handle.new }
@@ -74,7 +74,7 @@ fn make_in(system: &mut System, group: u16, make: Make, told: &mut u16) -> u32
     tell(system.kernel.item_make(group, make), told)
 }
 
-/// Makes an item of a group, as the value says, and tells its handle.
+/// Makes an item of a group, as the value says, and writes its handle to `told`.
 fn make(alloc: Global, handle: &mut Handle, group: u16, make: Make, told: &mut u16) -> u32
     ensures served { Served IsPending (Changes (IsToldRead (table.on_group group (make_row (vm group) make)) told.new)) result handle.old handle.new }
     ensures no_room { result ≡ 4 → ItemHasNoRoom handle.new.value.kernel.core group (make_edit make) }
@@ -87,7 +87,7 @@ fn make(alloc: Global, handle: &mut Handle, group: u16, make: Make, told: &mut u
     status
 }
 
-/// Makes an item of zero bytes, and tells its handle.
+/// Makes an item of zero bytes, and writes its handle to `told`.
 #[unsafe(no_mangle)]
 pub extern "C" fn takhvoi_inew(
     alloc: Global,
@@ -134,7 +134,7 @@ pub extern "C" fn takhvoi_ifree(alloc: Global, handle: &mut Handle, group: u16, 
     change(alloc, handle, group, Change::Lfree { c: item })
 }
 
-/// Gives an item so many bytes: its first ones that fit, and zeros behind them.
+/// Changes an item's length: its first bytes stay, and zeros come after them.
 #[unsafe(no_mangle)]
 pub extern "C" fn takhvoi_irealloc(
     alloc: Global,
@@ -212,7 +212,7 @@ fn ilock(system: &mut System, group: u16, item: u16, told: &mut u16) -> u32
     }
 }
 
-/// Locks a group once more, where it has this item, and tells the item's length. Its items are the chunks of a locked block then.
+/// Locks a group once more, if it has this item, and writes the item's length to `told`. The group's items are then chunks of a locked block.
 #[unsafe(no_mangle)]
 pub extern "C" fn takhvoi_ilock(
     alloc: Global,
@@ -241,7 +241,7 @@ fn igetmap(system: &mut System, group: &mut u16, item: &mut u16) -> u32
     DONE
 }
 
-/// Tells the map item: its group, 0 for none, and the item.
+/// Writes the map item: its group, 0 for none, and the item.
 #[unsafe(no_mangle)]
 pub extern "C" fn takhvoi_igetmap(
     alloc: Global,
@@ -268,7 +268,7 @@ fn isetmap(system: &mut System, group: u16, item: u16) -> u32
     end(system.kernel.isetmap(group, item))
 }
 
-/// Names the map item; the group 0 and the item 0 for none.
+/// Sets the map item; the group 0 and the item 0 for none.
 #[unsafe(no_mangle)]
 pub extern "C" fn takhvoi_isetmap(alloc: Global, handle: &mut Handle, group: u16, item: u16) -> u32
     ensures { Served IsPending (Changes (IsAnswer (table.isetmap group item))) result handle.old handle.new }

@@ -1,4 +1,4 @@
-//! What the device has noted is told, for the host to perform.
+//! The steps that the device has noted, for the host to perform.
 
 ghost use Rattle.std.specs.Prelude.{◌≡◌, [], false, length, slice_get, true};
 ghost use Rattle.host_device.specs.Journal.{journal_of};
@@ -14,7 +14,7 @@ use geos_kernel::Kernel;
 use host_device::{HostDevice, Step};
 use std::alloc::Global;
 
-/// Whether nothing is noted that the host has not performed.
+/// Whether the host has performed every noted step.
 pub(crate) fn is_performed(kernel: &Kernel<HostDevice>) -> bool
     ensures none { result ≡ true → journal_of kernel.now.device ≡ [] }
     ensures some { result ≡ false → journal_of kernel.now.device ≡ [] → ⊥ }
@@ -22,7 +22,8 @@ pub(crate) fn is_performed(kernel: &Kernel<HostDevice>) -> bool
     kernel.device().is_performed()
 }
 
-/// Gets the memory for all that a commit notes; returns whether it has it.
+/// Gets the memory for every note of a commit, and returns whether there is enough. No clause says when the answer is false: only if the
+/// allocator has refused, for which the kit has no predicate.
 pub(crate) fn make_room(kernel: &mut Kernel<HostDevice>) -> bool
     requires { journal_of kernel.old.device ≡ [] }
     ensures { kernel.new ≡ kernel.old }
@@ -31,7 +32,7 @@ pub(crate) fn make_room(kernel: &mut Kernel<HostDevice>) -> bool
     kernel.device().has_room()
 }
 
-/// Forgets what is noted where no host performs it.
+/// Forgets the noted steps if there is no host.
 pub(crate) fn rest(kernel: &mut Kernel<HostDevice>, hosted: bool)
     ensures core { kernel.new.core ≡ kernel.old.core }
     ensures hosted { hosted ≡ true → kernel.new ≡ kernel.old }
@@ -57,8 +58,8 @@ fn tell_step(device: &HostDevice, number: u32, kind: &mut u16, at: &mut u64, len
     }
 }
 
-/// Tells of the step with a number, from 0 on, that the host is to perform: `kind` is 1 for a write of `len` bytes from the offset
-/// `at` of the file on, 2 for a sync, and 0 where there is none.
+/// The step with a number, from 0 on, of those that the host has not performed: `kind` is 1 for a write of `len` bytes from the offset `at`
+/// of the file on, 2 for a sync, and 0 after the last step.
 #[unsafe(no_mangle)]
 pub extern "C" fn takhvoi_step(
     alloc: Global,
@@ -78,11 +79,12 @@ pub extern "C" fn takhvoi_step(
     DONE
 }
 
-/// Copies bytes of a write, where it has them.
+/// Copies bytes of the step, if it is a write and has them.
 #[tactic(auto, using(crate::proofs::Told::has_write, crate::proofs::Told::lacks_write, crate::proofs::Told::lacks_sync, crate::proofs::Told::lacks_none))]
 fn copy_step(device: &HostDevice, number: u32, from: u64, into: &mut [u8]) -> u32
     ensures copied { result ≡ 0 → HasBytes (slice_get (journal_of device.now) number) from into.new }
     ensures own { (result ≡ 0 → ⊥) → (result ≡ 105) × LacksBytes (slice_get (journal_of device.now) number) from (length into.old) }
+    ensures kept { (result ≡ 0 → ⊥) → into.new ≡ into.old }
 {
     let bytes = match device.step(number as usize) {
         Some(Step::Write(_, bytes)) => bytes,
@@ -98,7 +100,8 @@ fn copy_step(device: &HostDevice, number: u32, from: u64, into: &mut [u8]) -> u3
     DONE
 }
 
-/// Copies bytes of the step with a number, a write, from its byte `from` on. `BAD_SIZE` where it is none, or does not have them.
+/// Copies bytes of the step with a number, a write, from its byte `from` on. `BAD_SIZE` if the step is no write, or has fewer bytes: then
+/// `into` is as before.
 #[unsafe(no_mangle)]
 pub extern "C" fn takhvoi_step_bytes(
     alloc: Global,
@@ -107,8 +110,9 @@ pub extern "C" fn takhvoi_step_bytes(
     from: u64,
     into: &mut [u8],
 ) -> u32
-    ensures { Served (NoSuchBytes number from (length into.old)) (Looks (HasBytes (step_at handle.old.value number) from into.new))
+    ensures served { Served (NoSuchBytes number from (length into.old)) (Looks (HasBytes (step_at handle.old.value number) from into.new))
         result handle.old handle.new }
+    ensures kept { (result ≡ 0 → ⊥) → into.new ≡ into.old }
 {
     let Some(system) = take(alloc, handle) else {
         return NO_KERNEL;
@@ -125,7 +129,7 @@ fn settle(system: &mut System) -> u32
     DONE
 }
 
-/// Says that the host has performed every step, in order, and that what it wrote lasts. Nothing is noted from then on.
+/// The host has performed every step, in order, and the writes last: the kernel forgets the steps.
 #[unsafe(no_mangle)]
 pub extern "C" fn takhvoi_performed(alloc: Global, handle: &mut Handle) -> u32
     ensures { Served NoOwn IsSettled result handle.old handle.new }

@@ -33,7 +33,7 @@ fn is_region(region: u32) -> bool
     65_536 <= region && region <= 16_777_216
 }
 
-/// Has a handle hold a kernel on an open VM file. `hosted` says that a host performs what the device notes.
+/// Puts a kernel on an open VM file into a handle. `hosted`: whether a host performs the steps that the device notes.
 fn start(
     alloc: Global,
     handle: &mut Handle,
@@ -46,6 +46,7 @@ fn start(
     ensures kept { handle.old.live ≢ 0 → (handle.new.live ≢ 0) × (handle.new.value ≡ handle.old.value) }
     ensures began { result ≡ 0 → Began file region handle.new.value.kernel.core }
     ensures hosts { result ≡ 0 → handle.new.value.hosted ≡ hosted }
+    ensures images { result ≡ 0 → handle.new.value.images.items ≡ [] }
     ensures device { result ≡ 0 → hosted ≡ true → handle.new.value.kernel.device ≡ file.device }
     ensures alone { result ≡ 0 → hosted ≡ false → journal_of handle.new.value.kernel.device ≡ [] }
     ensures none { (result ≡ 0 → ⊥) → handle.old.live ≡ 0 → handle.new.live ≡ 0 }
@@ -85,14 +86,14 @@ fn start_new(alloc: Global, handle: &mut Handle, area: u32, region: u32, hosted:
     let Ok(device) = HostDevice::new(alloc, device_length(area)) else {
         return NO_MEMORY;
     };
-    // The device has room for the file, and fails only where there is no memory.
+    // The device has room for the file, and fails only if the allocator refuses.
     match VmFile::create(alloc, device, area) {
         Ok(file) => start(alloc, handle, region, file, hosted),
         Err(_) => NO_MEMORY,
     }
 }
 
-/// Has a handle hold a kernel with no block, in a region of so many bytes, on a new VM file in memory with areas of so many.
+/// Puts a kernel without blocks into a handle: in a region of so many bytes, on a new VM file in memory with areas of so many.
 #[unsafe(no_mangle)]
 pub extern "C" fn takhvoi_new(alloc: Global, handle: &mut Handle, area: u32, region: u32) -> u32
     ensures made { result ≡ 0 → (handle.old.live ≡ 0) × (handle.new.live ≡ 1) }
@@ -104,7 +105,7 @@ pub extern "C" fn takhvoi_new(alloc: Global, handle: &mut Handle, area: u32, reg
     start_new(alloc, handle, area, region, false)
 }
 
-/// The same where a host keeps the file: it begins with 1,024 bytes and two areas of zeros, and performs what is noted.
+/// The same for a file of a host: it begins with 1,024 zeros and two areas of zeros, and performs the noted steps.
 #[unsafe(no_mangle)]
 pub extern "C" fn takhvoi_create(alloc: Global, handle: &mut Handle, area: u32, region: u32) -> u32
     ensures made { result ≡ 0 → (handle.old.live ≡ 0) × (handle.new.live ≡ 1) }
@@ -116,8 +117,8 @@ pub extern "C" fn takhvoi_create(alloc: Global, handle: &mut Handle, area: u32, 
     start_new(alloc, handle, area, region, true)
 }
 
-/// The same on the VM file of which a host holds the bytes. Where they are none, `fault` is the offset of the first field that is
-/// faulty or cut.
+/// The same on the VM file that a host's bytes encode. If they encode none, `fault` is the offset of the first field that is faulty or cut
+/// off.
 #[unsafe(no_mangle)]
 pub extern "C" fn takhvoi_open(
     alloc: Global,
@@ -147,13 +148,13 @@ pub extern "C" fn takhvoi_open(
                 BAD_FILE
             }
             OpenError::Memory => NO_MEMORY,
-            // It fails only where there is no memory to note the sync.
+            // It fails only if the allocator refuses the memory to note the sync.
             OpenError::Disk => NO_MEMORY,
         },
     }
 }
 
-/// Tells whether the VM file is sure of what it keeps: 1 or 0. Where it is not, it takes no commit, and is to be opened again.
+/// Writes to `sure` whether the VM file is sure of what it has committed: 1 or 0. If not, it refuses commits, and has to be opened again.
 #[unsafe(no_mangle)]
 pub extern "C" fn takhvoi_is_sure(alloc: Global, handle: &mut Handle, sure: &mut u16) -> u32
     ensures { Served NoOwn (Looks (IsFlag sure.new handle.old.value.kernel.core.vm.file.sure)) result handle.old handle.new }
@@ -166,7 +167,7 @@ pub extern "C" fn takhvoi_is_sure(alloc: Global, handle: &mut Handle, sure: &mut
     DONE
 }
 
-/// Frees what a handle holds, and closes its file. What no commit has kept is lost.
+/// Frees the kernel of a handle. Changes that were not committed are lost.
 #[unsafe(no_mangle)]
 pub extern "C" fn takhvoi_close(alloc: Global, handle: &mut Handle) -> u32
     ensures freed { handle.new.live ≡ 0 }
@@ -182,7 +183,7 @@ pub extern "C" fn takhvoi_close(alloc: Global, handle: &mut Handle) -> u32
     }
 }
 
-/// The number of this library's interface: it rises where a declaration of the header changes.
+/// The number of this library's interface: it rises when a declaration of the header changes.
 #[unsafe(no_mangle)]
 pub extern "C" fn takhvoi_abi() -> u32
     ensures { result ≡ 1 }

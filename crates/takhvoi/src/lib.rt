@@ -1,8 +1,8 @@
 //! The kernel, and routines that a verifier has checked, for programs in C: a static library, whose header is `library/takhvoi.h`.
 //!
-//! A caller has a `Handle`, all zeros at first, and passes its address to each call. A call answers 0 where it is done, the number
-//! of the refusal where the kernel refuses, and a number of `status` where the library does. It may be given any handle, number
-//! and length: none of its functions has a condition.
+//! A caller has a `Handle`, all zeros at first, and passes its address to each call. A call returns 0 if it is done, the number of the
+//! refusal if the kernel refuses, and a number of `status` if the library does. It takes any handle, number and length: no function
+//! requires anything.
 #![tactic(auto)]
 
 mod access;

@@ -1,4 +1,4 @@
-//! What there is, is listed: handles, in order.
+//! Lists of handles, in order.
 
 ghost use Rattle.std.specs.Prelude.{ℕ, ◌≡◌, ◌+◌, ◌<◌, ◌++◌, ◌∷◌, [], List, Ok, Err, IfErr, IfOk, OnOk};
 ghost use Rattle.geos_calls.specs.VmFile.{VmFile};
@@ -27,12 +27,12 @@ const PAST_HANDLES: u16 = 1025;
 /// Handles of chunks are even, and below this number.
 const PAST_CHUNKS: u16 = 65_535;
 
-/// The number of the refusal of a chunk that is not there.
+/// The number of the refusal of a chunk that does not exist.
 const BAD_CHUNK: u16 = 2;
 /// The number of the refusal of a block that is locked too often.
 const LOCKED: u16 = 7;
 
-/// Puts a handle behind those that were found, if there is room for it.
+/// Counts a handle, and writes it after the others if there is room.
 fn put_next(into: &mut [u16], count: &mut u32, handle: u16)
     requires { count.old < 65536 }
     ensures filled { (found start : List ℕ) → Fills found count.old start into.old → Fills (found ++ handle ∷ []) count.new start into.new }
@@ -67,8 +67,8 @@ fn list_file(kernel: &Kernel<HostDevice>, into: &mut [u16], count: &mut u32)
     }
 }
 
-/// Lists the handles of the blocks and groups of the VM file, in order: `count` tells how many there are, and as many as there is room
-/// for go into `into`.
+/// Lists the handles of the blocks and groups of the VM file, in order: `count` is their number, and as many as there is room for are written
+/// to `into`.
 #[unsafe(no_mangle)]
 pub extern "C" fn takhvoi_vlist(
     alloc: Global,
@@ -76,7 +76,8 @@ pub extern "C" fn takhvoi_vlist(
     into: &mut [u16],
     count: &mut u32,
 ) -> u32
-    ensures { Served NoOwn (Looks (Lists is_listed past_handles handle.old.value.kernel.core count.new into.old into.new)) result handle.old handle.new }
+    ensures served { Served NoOwn (Looks (Lists is_listed past_handles handle.old.value.kernel.core count.new into.old into.new)) result handle.old handle.new }
+    ensures kept { (result ≡ 0 → ⊥) → into.new ≡ into.old }
 {
     let Some(system) = take(alloc, handle) else {
         return NO_KERNEL;
@@ -111,8 +112,9 @@ fn list_chunks(kernel: &Kernel<HostDevice>, name: Name, into: &mut [u16], count:
 }
 
 fn list_chunks_in(system: &System, name: Name, into: &mut [u16], count: &mut u32) -> u32
-    ensures { Done (NotLocked name) (Looks (Lists (is_chunk name) past_chunks system.now.kernel.core count.new into.old into.new))
+    ensures done { Done (NotLocked name) (Looks (Lists (is_chunk name) past_chunks system.now.kernel.core count.new into.old into.new))
         result system.now system.now }
+    ensures kept { (result ≡ 0 → ⊥) → into.new ≡ into.old }
 {
     if system.kernel.locks(name) == 0 {
         return NOT_LOCKED;
@@ -130,8 +132,9 @@ pub extern "C" fn takhvoi_llist(
     into: &mut [u16],
     count: &mut u32,
 ) -> u32
-    ensures { Served (NotLocked (name_of block)) (Looks (Lists (is_chunk (name_of block)) past_chunks handle.old.value.kernel.core
+    ensures served { Served (NotLocked (name_of block)) (Looks (Lists (is_chunk (name_of block)) past_chunks handle.old.value.kernel.core
         count.new into.old into.new)) result handle.old handle.new }
+    ensures kept { (result ≡ 0 → ⊥) → into.new ≡ into.old }
 {
     let Some(system) = take(alloc, handle) else {
         return NO_KERNEL;
@@ -141,13 +144,13 @@ pub extern "C" fn takhvoi_llist(
     status
 }
 
-/// Whether a block of memory has this handle. One that is not locked is locked and unlocked for it.
+/// Whether a block of memory has this handle. If it is not locked, this call locks and unlocks it.
 fn is_block(kernel: &mut Kernel<HostDevice>, h: u16) -> bool
     ensures looks { Calls (Unit {0}) looks (Ok tt) kernel.old.core kernel.new.core }
     ensures vm { LeavesVm kernel.old kernel.new }
     ensures found { (f : VmFile) → IsFileOf (Unit {0}) kernel.old.core f → result ≡ is_block (memory_of kernel.old.core f) h }
 {
-    // how often the model has it locked
+    // the lock count in the model
     kernel.memory_is_legal();
     match kernel.mlock(h) {
         Ok(()) => {
@@ -174,7 +177,8 @@ fn list_blocks(kernel: &mut Kernel<HostDevice>, into: &mut [u16], count: &mut u3
 }
 
 fn list_blocks_in(system: &mut System, into: &mut [u16], count: &mut u32) -> u32
-    ensures { Done NoOwn (IsFound (Lists is_block past_handles system.old.kernel.core count.new into.old into.new)) result system.old system.new }
+    ensures done { Done NoOwn (IsFound (Lists is_block past_handles system.old.kernel.core count.new into.old into.new)) result system.old system.new }
+    ensures kept { (result ≡ 0 → ⊥) → into.new ≡ into.old }
 {
     list_blocks(&mut system.kernel, into, count);
     DONE
@@ -188,8 +192,9 @@ pub extern "C" fn takhvoi_mlist(
     into: &mut [u16],
     count: &mut u32,
 ) -> u32
-    ensures { Served NoOwn (IsFound (Lists is_block past_handles handle.old.value.kernel.core count.new into.old into.new))
+    ensures served { Served NoOwn (IsFound (Lists is_block past_handles handle.old.value.kernel.core count.new into.old into.new))
         result handle.old handle.new }
+    ensures kept { (result ≡ 0 → ⊥) → into.new ≡ into.old }
 {
     let Some(mut system) = take(alloc, handle) else {
         return NO_KERNEL;
@@ -199,7 +204,8 @@ pub extern "C" fn takhvoi_mlist(
     status
 }
 
-/// Whether a group has an item with this handle. The group is brought into memory, and locked and unlocked for it; it is refused as `ilock`.
+/// Whether a group has an item with this handle. The call brings the group into memory, and locks and unlocks it; its refusals are those of
+/// `ilock`.
 fn is_item(kernel: &mut Kernel<HostDevice>, group: u16, c: u16) -> Result<bool, Refusal>
     ensures brought { IfOk result (λ _. Calls (Unit {0}) (brings group) (Ok tt) kernel.old.core kernel.new.core) }
     ensures refused { IfErr result (λ why. Calls (Unit {0}) (brings group) (Err why) kernel.old.core kernel.new.core) }
@@ -207,7 +213,7 @@ fn is_item(kernel: &mut Kernel<HostDevice>, group: u16, c: u16) -> Result<bool, 
     ensures reads { ReadsOnly medium kernel.old.device kernel.new.device }
     ensures found { IfOk result (λ is. (f : VmFile) → IsFileOf (Unit {0}) kernel.old.core f → is ≡ is_chunk (vm group) (memory_of kernel.old.core f) c) }
 {
-    // how often the model has it locked
+    // the lock count in the model
     kernel.memory_is_legal();
     match kernel.ilock(group, c, 0) {
         Ok(_span) => {
@@ -238,7 +244,7 @@ fn list_items(
     ensures lists { OnOk result (Lists (is_chunk (vm group)) past_chunks kernel.old.core count.new into.old into.new) }
 {
     *count = 0;
-    // the group comes, or is refused
+    // the group is brought into memory, or the call is refused
     match is_item(kernel, group, 0) {
         Ok(_) => {}
         Err(why) => return Err(why),
@@ -263,7 +269,7 @@ fn list_items_in(system: &mut System, group: u16, into: &mut [u16], count: &mut 
     end(list_items(&mut system.kernel, group, into, count))
 }
 
-/// Lists the items of a group, as `takhvoi_vlist` does, which is brought into memory for it. It is refused as `takhvoi_ilock` is.
+/// Lists the items of a group, as `takhvoi_vlist` does. The call brings the group into memory; its refusals are those of `takhvoi_ilock`.
 #[unsafe(no_mangle)]
 pub extern "C" fn takhvoi_ilist(
     alloc: Global,

@@ -1,4 +1,4 @@
-//! The numbers that calls answer.
+//! The numbers that calls return.
 
 ghost use Rattle.std.specs.Prelude.{◌≡◌, ◌≤◌, Err, IfOk};
 ghost use Rattle.geos_terms.specs.Refusals.{refusal_number};
@@ -7,9 +7,9 @@ ghost use Rattle.takhvoi.specs.Names.{name_of};
 
 use geos_kernel::{Name, Refusal};
 
-/// It is done.
+/// The call is done.
 pub(crate) const DONE: u32 = 0;
-/// The handle holds no kernel.
+/// The handle has no kernel.
 pub(crate) const NO_KERNEL: u32 = 100;
 /// The block is not locked.
 pub(crate) const NOT_LOCKED: u32 = 101;
@@ -17,29 +17,29 @@ pub(crate) const NOT_LOCKED: u32 = 101;
 pub(crate) const NOT_MARKED: u32 = 102;
 /// A block of the VM file is locked.
 pub(crate) const FILE_LOCKED: u32 = 103;
-/// The handle holds a kernel already.
+/// The handle has a kernel already.
 pub(crate) const HAS_KERNEL: u32 = 104;
 /// A size, or a range of bytes, is not within its limits.
 pub(crate) const BAD_SIZE: u32 = 105;
-/// The host has not performed what is noted.
+/// The host has not performed every noted step.
 pub(crate) const PENDING: u32 = 106;
-/// The file is no VM file.
+/// The bytes encode no VM file.
 pub(crate) const BAD_FILE: u32 = 110;
-/// There is no memory.
+/// The allocator refuses memory.
 pub(crate) const NO_MEMORY: u32 = 111;
 
-/// The bytes are no image, or the text has a fault.
+/// The bytes encode no image, or the text has a fault.
 pub(crate) const BAD_IMAGE: u32 = 112;
 /// The verifier refuses the image, or no rows are found for the text.
 pub(crate) const REFUSED: u32 = 113;
-/// There is no such image, no such public routine, a word is not within its bounds, or the blocks are not lent as it wants.
+/// There is no such image or public routine, a word is past its bound, or the blocks are not those that the routine borrows.
 pub(crate) const NOT_ADMITTED: u32 = 114;
 /// The buffer is too short.
 pub(crate) const SHORT_BUFFER: u32 = 115;
-/// A public routine does something that is not granted.
+/// A public routine has an effect that is not granted.
 pub(crate) const NOT_GRANTED: u32 = 116;
 
-/// The block with a number: a handle, and 65,536 more where it is one of the VM file.
+/// The block with a number: a handle, or a handle and 65,536 for a block of the VM file.
 pub(crate) fn name_of(block: u32) -> Name
     ensures { result ≡ name_of block }
 {
@@ -50,7 +50,7 @@ pub(crate) fn name_of(block: u32) -> Name
     }
 }
 
-/// The number of a refusal, or 0, and what is answered.
+/// The number of a refusal, or 0 with the answer in `told`.
 pub(crate) fn tell(reply: Result<u16, Refusal>, told: &mut u16) -> u32
     ensures status { IsStatus reply result }
     ensures told { IfOk reply (λ n. told.new ≡ n) }

@@ -1,4 +1,4 @@
-//! What a handle holds.
+//! The kernel of a handle, and what runs over it.
 
 ghost use Rattle.std.specs.Prelude.{◌≡◌, []};
 
@@ -8,8 +8,8 @@ use geos_verify::Checked;
 use host_device::HostDevice;
 use std::alloc::Global;
 
-/// A kernel, the machine that runs routines over it, and the images that were loaded, by their numbers. `hosted` says that a host
-/// performs what the device notes; else it is forgotten.
+/// A kernel, the machine that runs routines over it, and the loaded images, by their numbers. `hosted`: whether a host performs the steps that
+/// the device notes; otherwise they are forgotten.
 #[derive(Drop)]
 pub struct System {
     pub(crate) kernel: Kernel<HostDevice>,

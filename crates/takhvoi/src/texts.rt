@@ -11,7 +11,7 @@ use geos_image::ReadError;
 use round_trip::list;
 use std::alloc::Global;
 
-/// Copies bytes to the beginning of a buffer, if they fit; tells how many there are.
+/// Copies bytes to the beginning of a buffer, if they fit, and writes their number to `told`.
 pub(crate) fn give(bytes: &[u8], into: &mut [u8], told: &mut u64) -> u32
     ensures told { told.new ≡ length bytes.now }
     ensures given { result ≡ 0 → IsPutInto bytes.now told.new into.old into.new }
@@ -26,8 +26,8 @@ pub(crate) fn give(bytes: &[u8], into: &mut [u8], told: &mut u64) -> u32
     DONE
 }
 
-/// The image of an assembly text, with rows at its key places. `told` is how many bytes it has, also where the buffer is too short;
-/// or the line of the text's first fault; or the line of a routine for which no rows are found.
+/// The image of an assembly text, with rows at its key places. `told` is the number of its bytes, also if the buffer is too short; or the
+/// line of the text's first fault; or the line of a routine for which no rows are found.
 #[unsafe(no_mangle)]
 pub extern "C" fn takhvoi_assemble(
     alloc: Global,
@@ -59,8 +59,8 @@ pub extern "C" fn takhvoi_assemble(
     }
 }
 
-/// The listing of an image, a text. `told` is how many bytes it has, also where the buffer is too short; or the offset of the first
-/// faulty byte.
+/// The listing of an image, a text. `told` is the number of its bytes, also if the buffer is too short; or the offset of the first faulty
+/// byte.
 #[unsafe(no_mangle)]
 pub extern "C" fn takhvoi_list(alloc: Global, bytes: &[u8], into: &mut [u8], told: &mut u64) -> u32
     ensures listed { result ≡ 0 → Gives (IsListedAs bytes.now) told.new into.old into.new }

@@ -27,7 +27,7 @@ fn vnew(system: &mut System, uid: u16, told: &mut u16) -> u32
     tell(system.kernel.vnew(uid), told)
 }
 
-/// Makes a block of the VM file with a user ID, marks it, locks it, and tells its handle.
+/// Makes a block of the VM file with a user ID, marks and locks it, and writes its handle to `told`.
 #[unsafe(no_mangle)]
 pub extern "C" fn takhvoi_vnew(alloc: Global, handle: &mut Handle, uid: u16, told: &mut u16) -> u32
     ensures served { Served IsPending (Changes (IsTold (table.vnew uid) told.new)) result handle.old handle.new }
@@ -48,7 +48,7 @@ fn vlock(system: &mut System, block: u16) -> u32
     end(system.kernel.vlock(block))
 }
 
-/// Locks a block of the VM file once more, which brings it into memory.
+/// Locks a block of the VM file once more; the call brings the block into memory.
 #[unsafe(no_mangle)]
 pub extern "C" fn takhvoi_vlock(alloc: Global, handle: &mut Handle, block: u16) -> u32
     ensures served { Served NoOwn (IsAnswerRead (table.vlock block)) result handle.old handle.new }
@@ -76,7 +76,7 @@ fn vdirty(system: &mut System, block: u16) -> u32
     DONE
 }
 
-/// Marks a block of the VM file, or a group, that is locked: a commit will write it.
+/// Marks a locked block of the VM file, or a locked group: the next commit writes it.
 #[unsafe(no_mangle)]
 pub extern "C" fn takhvoi_vdirty(alloc: Global, handle: &mut Handle, block: u16) -> u32
     ensures { Served (MayNotMark (vm block)) (Changes (IsAnswer (table.vdirty block))) result handle.old handle.new }
@@ -117,7 +117,7 @@ fn vfind(system: &mut System, start: u16, uid: u16, told: &mut u16) -> u32
     tell(system.kernel.vfind(start, uid), told)
 }
 
-/// Tells the lowest handle above `start` of a block with the user ID; 0 for none.
+/// Writes to `told` the lowest handle above `start` of a block with the user ID; 0 for none.
 #[unsafe(no_mangle)]
 pub extern "C" fn takhvoi_vfind(
     alloc: Global,
@@ -142,7 +142,7 @@ fn vuid(system: &mut System, block: u16, told: &mut u16) -> u32
     tell(system.kernel.vuid(block), told)
 }
 
-/// Tells the user ID of a block of the VM file, or of a group.
+/// Writes to `told` the user ID of a block of the VM file, or of a group.
 #[unsafe(no_mangle)]
 pub extern "C" fn takhvoi_vuid(
     alloc: Global,
@@ -167,7 +167,7 @@ fn vgetmap(system: &mut System, told: &mut u16) -> u32
     DONE
 }
 
-/// Tells the map block; 0 for none.
+/// Writes the handle of the map block to `told`; 0 for none.
 #[unsafe(no_mangle)]
 pub extern "C" fn takhvoi_vgetmap(alloc: Global, handle: &mut Handle, told: &mut u16) -> u32
     ensures { Served NoOwn (IsTold table.vgetmap told.new) result handle.old handle.new }
@@ -189,7 +189,7 @@ fn vsetmap(system: &mut System, block: u16) -> u32
     end(system.kernel.vsetmap(block))
 }
 
-/// Names the map block; 0 for none.
+/// Sets the map block; 0 for none.
 #[unsafe(no_mangle)]
 pub extern "C" fn takhvoi_vsetmap(alloc: Global, handle: &mut Handle, block: u16) -> u32
     ensures { Served IsPending (Changes (IsAnswer (table.vsetmap block))) result handle.old handle.new }
@@ -214,14 +214,14 @@ fn commit_in(system: &mut System, how: How) -> u32
     if !make_room(&mut system.kernel) {
         return number(Refusal::Memory);
     }
-    // what a stop leaves before it
+    // what a stop before the commit leaves
     system.kernel.memory_is_legal();
     let status = end(system.kernel.commit(how));
     rest(&mut system.kernel, system.hosted);
     status
 }
 
-/// Keeps the pair of directories that `how` names, where no block of the VM file is locked.
+/// Commits the pair of directories that `how` names. No block of the VM file may be locked.
 fn commit(alloc: Global, handle: &mut Handle, how: How) -> u32
     ensures { Served MayNotCommit (IsCommitted how) result handle.old handle.new }
 {
@@ -233,7 +233,7 @@ fn commit(alloc: Global, handle: &mut Handle, how: How) -> u32
     status
 }
 
-/// Keeps what the VM file has now, beside what was saved.
+/// Commits the current state of the VM file, and leaves the saved state.
 #[unsafe(no_mangle)]
 pub extern "C" fn takhvoi_update(alloc: Global, handle: &mut Handle) -> u32
     ensures { Served MayNotCommit (IsCommitted How.Update) result handle.old handle.new }
@@ -241,7 +241,7 @@ pub extern "C" fn takhvoi_update(alloc: Global, handle: &mut Handle) -> u32
     commit(alloc, handle, How::Update)
 }
 
-/// Keeps what the VM file has now, and saves it.
+/// Commits the current state of the VM file, and makes it the saved state.
 #[unsafe(no_mangle)]
 pub extern "C" fn takhvoi_save(alloc: Global, handle: &mut Handle) -> u32
     ensures { Served MayNotCommit (IsCommitted How.Save) result handle.old handle.new }
@@ -249,7 +249,7 @@ pub extern "C" fn takhvoi_save(alloc: Global, handle: &mut Handle) -> u32
     commit(alloc, handle, How::Save)
 }
 
-/// Goes back to what was saved, and keeps that.
+/// Reverts to the saved state, and commits it.
 #[unsafe(no_mangle)]
 pub extern "C" fn takhvoi_revert(alloc: Global, handle: &mut Handle) -> u32
     ensures { Served MayNotCommit (IsCommitted How.Revert) result handle.old handle.new }

@@ -26,3 +26,7 @@ returns-in-Ok-new-clause-alone c = λ done alone.
     let on = λ (k : KernelOn HostDevice). journal_of k.device in
     ap (λ (s : System). on s.kernel) (c.put-in-Ok-new.ensures.value ∙ c.in-Ok-new.ensures.ok) ∙ ap on c.of.ensures.kernel
     ∙ c.rest.ensures.alone alone
+
+pub returns-in-Ok-new-clause-images : goal.returns-in-Ok-new-clause-images
+returns-in-Ok-new-clause-images c = λ done.
+    ap (λ (s : System). s.images.items) (c.put-in-Ok-new.ensures.value ∙ c.in-Ok-new.ensures.ok) ∙ c.of.ensures.images

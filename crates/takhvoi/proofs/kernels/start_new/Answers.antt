@@ -17,6 +17,7 @@ returns-in-Ok-create-clause-new c = λ done.
       tied = new-file c.in-Ok-create.file c.args.area c.args.region c.start.new.handle.value.kernel.core b c.in-Ok-create.ensures.file;
       store = b.store;
       hosts = c.start.ensures.hosts done;
+      images = c.start.ensures.images done;
       leads = λ hosted. subst (λ d. Leads (replicate (1024 + 2 * c.args.area) 0) d) (sym (c.start.ensures.device done hosted))
           (subst (λ bs. Leads bs on) zeros
           (leads-from device on c.in-Ok.ensures.steps (goes-writing device on 0 1040 c.in-Ok-create.ensures.writes)));

@@ -19,6 +19,7 @@ returns-in-Ok-open-clause-opened c = λ done.
       spelled = subst (λ bs. file_at bs ≡ Ok (file_of bytes_of c.in-Ok-open.file)) c.in-Ok.ensures.bytes (c.in-Ok-open.ensures.exact tt);
       began = c.start.ensures.began done;
       hosts = c.start.ensures.hosts done;
+      images = c.start.ensures.images done;
       leads = subst (λ d. Leads c.args.bytes.now d) (sym same)
           (subst (λ bs. Leads bs on) c.in-Ok.ensures.bytes (leads-from device on c.in-Ok.ensures.steps (goes-reading device on reads)));
       holds = ap bytes_of same ∙ reads.same ∙ c.in-Ok.ensures.bytes;
