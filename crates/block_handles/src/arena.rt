@@ -43,7 +43,7 @@ fn empty_index(alloc: Global, n: usize) -> Result<Vec<Option<u16>>, AllocError>
     Ok(index)
 }
 
-/// Moves bytes to another place, unless it is the one where they stand.
+/// Moves bytes to another offset, unless they are there.
 fn move_to(region: &mut Region, from: u32, to: u32, n: u32)
     requires { (from + n ≤ length region.old) × (to + n ≤ length region.old) }
     ensures { region.new ≡ with_part region.old to (part region.old from n) }
@@ -240,7 +240,7 @@ impl Arena {
         self.index[(entry.place / GRANULE) as usize] = None;
     }
 
-    /// Locks a block once more. `false` where the slot has none, or its count is 65,535; nothing changes then.
+    /// Locks a block once more. `false` if the slot has none, or its count is 65,535; nothing changes then.
     #[inline(always)]
     pub(crate) fn lock(&mut self, slot: usize) -> bool
         ensures taken { IsTrue result → IsThere self.old slot × (locks_of self.old slot < 65535)

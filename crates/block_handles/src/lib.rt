@@ -68,7 +68,7 @@ impl Blocks {
     ghost use Rattle.block_handles.specs.Used.{IsLowest, AllInUse};
 
     /// No block, in a region of `region` zero bytes. This is the only call that takes memory:
-    /// the region, and tables for every name. `AllocError` where the allocator has none.
+    /// the region, and tables for every name. `AllocError` if the allocator has none.
     pub fn new(alloc: Global, region: u32) -> Result<Blocks, AllocError>
         requires { (65536 ≤ region) × (region ≤ 16777216) }
         ensures { IfOk result (λ blocks. IsEmpty blocks region) }
@@ -82,7 +82,7 @@ impl Blocks {
         })
     }
 
-    /// The lowest handle of an owner that names no block; `None` where all 1,024 do.
+    /// The lowest handle of an owner that names no block; `None` if all 1,024 do.
     pub fn lowest(&self, owner: Owner) -> Option<u16>
         ensures found { IfSome result (IsLowest self.now owner) }
         ensures none { IfNone result (AllInUse self.now owner) }
@@ -108,7 +108,7 @@ impl Blocks {
         self.arena.has(slot_of(name))
     }
 
-    /// How often a block is locked; 0 where there is none.
+    /// How often a block is locked; 0 if there is none.
     pub fn locks(&self, name: Name) -> u16
         ensures { result ≡ locks_of self.now (slot_of name) }
     {
@@ -120,8 +120,8 @@ impl Blocks {
         }
     }
 
-    /// How often the blocks of the VM file are locked, all together: the sum of their counts. It is
-    /// kept, so no block is looked at.
+    /// How often the blocks of the VM file are locked, all together: the sum of their counts. The
+    /// sum is stored, so this takes constant time.
     pub fn vm_locks(&self) -> u32
         ensures sum { result ≡ vm_locks self.now }
         ensures laid { IsLaidOut self.now }
@@ -138,16 +138,15 @@ impl Blocks {
         self.free < more
     }
 
-    /// Where the gap ends, the free range in which the next block is placed. Where the block behind
-    /// it is freed, the gap gets wider. A hint which block to free for room: no contract rests on
-    /// it.
+    /// The end of the gap, the free range in which the next block is placed. If the block after it
+    /// is freed, the gap gets wider. A hint which block to free for room: no contract rests on it.
     pub fn gap_end(&self) -> u32 {
         self.gap.end
     }
 
-    /// The name of the block that begins first at an offset or behind it, or first in the region
-    /// where none does, and where it ends; `None` where there is no block. So a walk passes the
-    /// blocks in the order in which they lie. No contract rests on that order: it is a hint.
+    /// The name and the end of the first block that begins at an offset or after it, or of the
+    /// first in the region if none does; `None` if there is no block. So a walk passes the blocks
+    /// in the order of their offsets. No contract rests on that order: it is a hint.
     pub fn next_from(&self, at: u32) -> Option<(Name, u32)>
         ensures { IfSome result (λ next. IsThere self.now (slot_of next.0) × (next.1 ≡ end_of self.now (slot_of next.0))) }
     {
@@ -260,7 +259,7 @@ impl Blocks {
     }
 
     /// Locks a block once more: it keeps its place until its count is 0 again, or it grows.
-    /// `BadHandle` where no block has this name, `Locked` where its count is 65,535; nothing
+    /// `BadHandle` if no block has this name, `Locked` if its count is 65,535; nothing
     /// changes then.
     pub fn lock(&mut self, name: Name) -> Result<(), HandleError>
         ensures there { OnOk result (IsThere self.old (slot_of name)) }
@@ -290,7 +289,7 @@ impl Blocks {
         self.vm_locks -= of_file(name.owner);
     }
 
-    /// Frees a block. `BadHandle` where no block has this name, `Locked` where it is locked;
+    /// Frees a block. `BadHandle` if no block has this name, `Locked` if it is locked;
     /// nothing changes then.
     pub fn free(&mut self, name: Name) -> Result<(), HandleError>
         ensures there { OnOk result (IsThere self.old (slot_of name)) }
@@ -316,7 +315,7 @@ impl Blocks {
     }
 
     /// Makes a block of `size` zero bytes, not locked, under a name that is not in use.
-    /// `NoRoom` where no stretch of the region has the room, `TooBig` above 65,520 bytes;
+    /// `NoRoom` if no stretch of the region has the room, `TooBig` above 65,520 bytes;
     /// nothing changes then. Unlocked blocks may move.
     pub fn make(&mut self, name: Name, size: u32) -> Result<(), RoomError>
         requires name { IsHandle name.h × (IsThere self.old (slot_of name) → ⊥) }
@@ -341,9 +340,9 @@ impl Blocks {
         Ok(())
     }
 
-    /// Grows a block to `size` bytes: it keeps its bytes, and zeros come behind them. It may
+    /// Grows a block to `size` bytes: it keeps its bytes, and zeros come after them. It may
     /// move, also where it is locked; another locked block stays, and unlocked ones may move.
-    /// `NoRoom` where no stretch of the region between the other locked blocks has the room,
+    /// `NoRoom` if no stretch of the region between the other locked blocks has the room,
     /// `TooBig` above 65,520 bytes; nothing changes then.
     pub fn grow(&mut self, name: Name, size: u32) -> Result<(), RoomError>
         requires there { IsThere self.old (slot_of name) }

@@ -25,7 +25,7 @@ const SHARE: u32 = 16;
 impl Gap {
     ghost use Rattle.block_handles.specs.Joined.{Joins, Reaches};
 
-    /// The gap with a free range that lies right before or behind it. A larger one that lies apart
+    /// The gap with a free range that lies right before or after it. A larger one that lies apart
     /// becomes the gap where it has its share of the `free` bytes beside it.
     pub(crate) fn joined(self, from: u32, until: u32, free: u32) -> Gap
         requires { (self.at ≤ self.end) × (from ≤ until) }
@@ -60,8 +60,8 @@ impl Gap {
 /// The room that a stretch should have, so that packing it serves more than one request.
 const LEAST: u32 = 4_096;
 
-/// A stretch with room for a block in a slot: the next one behind an offset that no block
-/// crosses, or from the region's begin, that should serve, and else the roomiest.
+/// A stretch with room for a block in a slot: the next one after an offset that no block
+/// crosses, or from the region's begin, that should serve, and otherwise the roomiest.
 fn stretch_for(arena: &Arena, after: u32, slot: usize, size: u32) -> Result<Stretch, RoomError>
     requires laid { IsLaidOut arena.now }
     requires edge { IsEdge arena.now after }
@@ -86,7 +86,7 @@ fn stretch_for(arena: &Arena, after: u32, slot: usize, size: u32) -> Result<Stre
 }
 
 /// A gap with room for a new block in a slot, or for the one that is there, which may lie in
-/// the gap. Packs one stretch where the gap at hand is too small: the next one behind `after`
+/// the gap. Packs one stretch where the gap at hand is too small: the next one after `after`
 /// that has room, where no block crosses `after`.
 pub(crate) fn room_for(
     arena: &mut Arena,

@@ -63,7 +63,7 @@ pub(crate) fn roomiest(arena: &Arena, but: usize) -> Stretch
     best.or_wider(from, len, taken)
 }
 
-/// The first stretch behind an offset with at least `least` bytes of room, for a call that may
+/// The first stretch after an offset with at least `least` bytes of room, for a call that may
 /// move and replace the block in `but`. No block crosses the offset.
 pub(crate) fn next_roomy(arena: &Arena, after: u32, but: usize, least: u32) -> Option<Stretch>
     requires laid { IsLaidOut arena.now }

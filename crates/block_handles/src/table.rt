@@ -8,7 +8,7 @@ use std::marker::Model;
 /// How many slots there are.
 pub(crate) const SLOTS: usize = 2048;
 
-/// Where a block lies, and how often it is locked.
+/// The place of a block, and its lock count.
 #[derive(Clone, Copy)]
 pub(crate) struct Entry {
     pub(crate) place: u32,
@@ -16,8 +16,8 @@ pub(crate) struct Entry {
     pub(crate) locks: u16,
 }
 
-/// What is kept of a slot: where its block lies, and how many locks more it can take. A free slot has no byte and
-/// takes no lock, so a lock makes one test.
+/// A slot: the place of its block, and how many more locks it can take. A free slot has no byte and takes no lock, so a
+/// lock makes one test.
 #[derive(Clone, Copy)]
 struct Row {
     place: u32,
@@ -95,7 +95,7 @@ impl Table {
         }
     }
 
-    /// Takes a lock more of the block in a slot. `false` where the slot is free, or its block can't be locked more often;
+    /// Takes a lock more of the block in a slot. `false` if the slot is free, or its block can't be locked more often;
     /// nothing changes then.
     #[inline(always)]
     pub(crate) fn lock(&mut self, slot: usize) -> bool

@@ -211,7 +211,7 @@ fn copy(blocks: &mut Blocks, name: Name, line: &Line<'_>) -> Result<Answer, &'st
     Ok(Answer::Done)
 }
 
-/// The offset of the region that lies so far behind the place of a block, and has `n` bytes from there on.
+/// The offset of the region that lies so far after the place of a block, and has `n` bytes from there on.
 fn offset(blocks: &Blocks, name: Name, at: u32, n: u32) -> Result<u32, &'static str>
     requires { IsThere blocks.now (slot_of name) }
     ensures { IfOk result (λ offset. offset + n ≤ region_len blocks.now) }

@@ -1,6 +1,6 @@
-//! Calls of a region and of moving blocks, a line each. The program prints each line again, with what the call answers behind it.
+//! Calls of a region and of moving blocks, a line each. The program prints each line again, with what the call answers after it.
 //!
-//! `region SIZE` and `blocks REGION` make what the lines behind them call.
+//! `region SIZE` and `blocks REGION` make what the lines after them call.
 #![tactic(auto)]
 
 mod block_calls;

@@ -27,7 +27,7 @@ impl CachedDevice {
     ghost use Rattle.cached_device.specs.History.{MayLeave, bytes_of, failures_of};
     ghost use Rattle.cached_device.specs.Stopped.{LeavesBy};
 
-    /// A device of so many zero bytes, which last: a stop leaves nothing else. `AllocError` where the allocator has no memory.
+    /// A device of so many zero bytes, which last: a stop leaves nothing else. `AllocError` if the allocator has no memory.
     pub fn new(alloc: Global, len: u64) -> Result<CachedDevice, AllocError>
         ensures bytes { IfOk result (λ device. bytes_of device ≡ replicate len 0) }
         ensures lasts { IfOk result (λ device. Only (replicate len 0) (MayLeave device)) }
@@ -43,7 +43,7 @@ impl CachedDevice {
     }
 
     /// What a stop now leaves, where it makes this of the parts of 512 bytes that were written since the last `sync`, in the order
-    /// of the device. `AllocError` where the allocator has no memory.
+    /// of the device. `AllocError` if the allocator has no memory.
     pub fn after_stop(&self, parts: &[Part]) -> Result<Vec<u8>, AllocError>
         ensures possible { IfOk result (λ bytes. MayLeave self.now bytes.items) }
         ensures chosen { IfOk result (λ bytes. LeavesBy self.now parts.now bytes.items) }
@@ -119,7 +119,7 @@ impl Device for CachedDevice {
         }
     }
 
-    /// Makes last what was written. `Disk` where there is no memory: then nothing happened.
+    /// Makes last what was written. `Disk` if there is no memory: then nothing happened.
     fn sync(&mut self) -> Result<(), Disk>
         ensures durable { OnOk result (Only (bytes_of self.new) (MayLeave self.new)) }
         ensures reads { ReadsOnly medium self.old self.new }

@@ -1,4 +1,4 @@
-//! Changes of an array's bytes where they stand.
+//! Changes of an array's bytes in place.
 ghost use Rattle.std.specs.Prelude.{◌≡◌, ℕ, ◌≤◌, List, Some};
 ghost use Rattle.geos_terms.specs.Arrays.{Array, spelled, with_element};
 ghost use Rattle.geos_terms.specs.ArrayEdits.{with_array};
@@ -15,7 +15,7 @@ use crate::table::{close_table, open_table, shift_offsets};
 use lmem_block::put16;
 use lmem_heap::place;
 
-/// Spells an array with a new element of zeros in a chunk that has the room for it at its place.
+/// Encodes an array with a new element of zeros in a chunk that has the room for it at its place.
 /// Its length is not used where elements have one size.
 pub(crate) fn put_element(block: &mut [u8], chunk: u16, shape: Shape, element: ElementPlace)
     requires heap { IsHeap block.old }
@@ -33,7 +33,7 @@ pub(crate) fn put_element(block: &mut [u8], chunk: u16, shape: Shape, element: E
     spell_inserted(&mut block[begin..begin + len as usize], shape, element);
 }
 
-/// Spells an array with a new element of zeros.
+/// Encodes an array with a new element of zeros.
 fn spell_inserted(bytes: &mut [u8], shape: Shape, element: ElementPlace)
     requires { IsRoomy bytes.old shape element }
     ensures { (before : List ℕ) (a : Array) → HasRoom bytes.old before a shape element
@@ -51,8 +51,8 @@ fn spell_inserted(bytes: &mut [u8], shape: Shape, element: ElementPlace)
     put16(bytes, COUNT, shape.count + 1);
 }
 
-/// Spells an array without an element, in front of whose end the bytes that it took, with its
-/// offset where sizes vary, are left: they are to be deleted.
+/// Encodes an array without an element. The bytes that the element took, with its offset if
+/// sizes vary, are left before the end: the caller deletes them.
 pub(crate) fn take_element(block: &mut [u8], chunk: u16, shape: Shape, element: ElementPlace)
     requires heap { IsHeap block.old }
     requires part { IsSomeAnd (chunk_of (chunks block.old) chunk) (λ bytes. IsParted bytes shape element) }
@@ -69,7 +69,7 @@ pub(crate) fn take_element(block: &mut [u8], chunk: u16, shape: Shape, element: 
     spell_removed(&mut block[begin..begin + len as usize], shape, element);
 }
 
-/// Spells an array without an element, but for the bytes that it took.
+/// Encodes an array without an element, except for the bytes that it took.
 fn spell_removed(bytes: &mut [u8], shape: Shape, element: ElementPlace)
     requires { IsParted bytes.old shape element }
     ensures { (a : Array) → HasPart bytes.old a shape element
@@ -87,7 +87,7 @@ fn spell_removed(bytes: &mut [u8], shape: Shape, element: ElementPlace)
     put16(bytes, COUNT, shape.count - 1);
 }
 
-/// Makes the offsets right behind an element that has n bytes in place of those that it had.
+/// Makes the offsets right after an element that has n bytes in place of those that it had.
 pub(crate) fn put_offsets(
     block: &mut [u8],
     chunk: u16,
@@ -111,7 +111,7 @@ pub(crate) fn put_offsets(
     spell_refitted(&mut block[begin..begin + len as usize], shape, element, n);
 }
 
-/// Spells an array in which an element has n bytes in place of those that it had.
+/// Encodes an array in which an element has n bytes in place of those that it had.
 fn spell_refitted(bytes: &mut [u8], shape: Shape, element: ElementPlace, n: usize)
     requires refit { IsRefitted bytes.old shape element n }
     requires small { (element.len ≤ 65535) × (n ≤ 65535) }

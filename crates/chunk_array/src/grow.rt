@@ -17,13 +17,12 @@ use crate::look::{Found, find};
 use crate::shape::ElementPlace;
 use lmem_heap::{InsertError, RoomError};
 
-/// Puts an element of `len` zero bytes behind the others; `len` is not used where elements have
+/// Puts an element of `len` zero bytes after the others; `len` is not used where elements have
 /// one size. Other chunks may move.
 ///
-/// `BadChunk` exactly where no chunk has this handle; else `BadArray` where its bytes are no
-/// array; else `Room` where the block has no room: `NeedMore` names the size that the block
-/// needs, where it is larger than the block is, and `TooBig` comes where no block is that
-/// large.
+/// `BadChunk` exactly if no chunk has this handle; otherwise `BadArray` if its bytes are no
+/// array; otherwise `Room` if the block has no room: `NeedMore` with the size that the block
+/// needs if the block is smaller, and `TooBig` if no block is that large.
 pub fn append(block: &mut [u8], chunk: u16, len: u16) -> Result<(), AppendError>
     requires { IsHeap block.old }
     ensures heap { IsHeap block.new }
@@ -50,8 +49,8 @@ pub fn append(block: &mut [u8], chunk: u16, len: u16) -> Result<(), AppendError>
 /// Puts an element of `len` zero bytes at an index, which may be the count; `len` is not used
 /// where elements have one size. Other chunks may move.
 ///
-/// `BadChunk` exactly where no chunk has this handle; else `BadArray` where its bytes are no
-/// array; else `BadElement` where `index` is above the count; else `Room` where the block has no
+/// `BadChunk` exactly if no chunk has this handle; otherwise `BadArray` if its bytes are no
+/// array; otherwise `BadElement` if `index` is above the count; otherwise `Room` if the block has no
 /// room: see `append`.
 pub fn insert(block: &mut [u8], chunk: u16, index: u16, len: u16) -> Result<(), GrowthError>
     requires { IsHeap block.old }

@@ -1,4 +1,4 @@
-//! The laws of arrays in bytes.
+//! Lemmas on arrays in bytes.
 ghost use Rattle.std.specs.Prelude.{◌≡◌, ◌≢◌, ℕ, List, length, Option, Some};
 ghost use Rattle.geos_terms.specs.Bytes.{AreBytes};
 ghost use Rattle.geos_terms.specs.Chunks.{bytes_of};
@@ -6,14 +6,13 @@ ghost use Rattle.geos_terms.specs.Arrays.{Array, arr, empty, spelled, with_eleme
 ghost use Rattle.geos_terms.specs.ArrayEdits.{array_of, with_array};
 ghost use Rattle.chunk_array.specs.Changes.{ChangesArray, EditsChangeArrays, IsSized};
 
-/// An array whose elements have the size that it says, where it says one, is read back out of
-/// the list that spells it, and out of a chunk in which it is spelled in place of another. Each
-/// array that is read is such an array. The other way round, a list of bytes that is read as an
-/// array is the one that spells it.
+/// An array whose elements have its size, if it has one, is read back from the list that encodes
+/// it, and from a chunk in which it replaces another. Each array that is read is such an array.
+/// Conversely, a list of bytes that is read as an array is the one that encodes it.
 ///
-/// Nothing is asked of the numbers in elements. Where one of them is no byte, or where the count,
-/// the size or an offset is no word, the list that spells the array has numbers that are no
-/// bytes, and stands in no block.
+/// The numbers in elements are arbitrary. If one of them is no byte, or the count, the size or
+/// an offset is no word, the list that encodes the array has numbers that are no bytes, and is
+/// in no block.
 pub fn arrays_are_read_back()
     ensures read { (a : Array) → IsSized a → arr (spelled a) ≡ Some a }
     ensures there { (chunks : List (Option (List ℕ))) (c : ℕ) (old new : Array) → arr (bytes_of chunks c) ≡ Some old → IsSized new
@@ -33,9 +32,9 @@ pub fn edits_keep_sizes()
 {}
 
 /// What the model says of the calls on arrays, which is what the kernel's calls do to the chunks
-/// of their block: where no refusal comes, the chunk spelled an array, and then it spells that
-/// array with the change that the call's name says. So the calls that come next find that array
-/// there: `append` made the count one more, and so on.
+/// of their block: if the call is not refused, the chunk encoded an array, and afterwards encodes
+/// that array with the change that the call's name says. So later calls find that array there:
+/// after `append` the count is one more, and so on.
 pub fn edits_change_arrays()
     ensures edits { EditsChangeArrays }
     ensures found { (old new : List (Option (List ℕ))) (c : ℕ) (change : Array → Array) → ChangesArray old new c change

@@ -1,14 +1,13 @@
 //! Arrays in the chunks of a heap: lists of elements of one size, or of varying sizes.
 //!
 //! An array has a header of four words. Elements of one size follow side by side; elements of
-//! varying sizes stand behind a table of the offsets where they begin. docs/ARRAYS.md has a
-//! picture. Every call works in the block alone, takes no memory, and leaves the block a heap
-//! with its handle; a call that is refused leaves every byte as it was. (GEOS SDK Concepts
-//! Book, chapter Local Memory.)
+//! varying sizes follow a table of their offsets. docs/ARRAYS.md has a picture. Every call works
+//! within the block, allocates nothing, and leaves the block a heap with its handle; a refused
+//! call leaves every byte unchanged. (GEOS SDK Concepts Book, chapter Local Memory.)
 //!
-//! Each call reads the array's shape first. Where elements have one size that takes a fixed
-//! time; where sizes vary it is one pass over the table of offsets, since the chunk's bytes
-//! are no array where one of them is wrong.
+//! Each call reads the array's shape first. That takes constant time if elements have one size.
+//! If sizes vary, it is one pass over the table of offsets, since the chunk's bytes are no array
+//! if one offset is wrong.
 #![tactic(auto)]
 
 mod change;

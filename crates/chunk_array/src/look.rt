@@ -15,7 +15,7 @@ use crate::error::{ArrayError, ElementError};
 use crate::shape::{ElementPlace, Shape};
 use lmem_heap::place;
 
-/// An array in a chunk: where the chunk's bytes stand, how many there are, and what they say.
+/// An array in a chunk: the offset of the chunk's bytes, their number, and their shape.
 #[derive(Clone, Copy)]
 pub(crate) struct Found {
     pub(crate) at: u16,
@@ -26,8 +26,7 @@ pub(crate) struct Found {
 impl Found {
     ghost use Rattle.geos_terms.specs.Arrays.{Array, arr, element_at};
 
-    /// Where an element begins, from the chunk's first byte on; at the count, where the last
-    /// one ends.
+    /// The offset of an element in the chunk; at the count, the end of the last element.
     pub(crate) fn start(self, block: &[u8], index: usize) -> usize
         requires within { self.at + self.len ≤ length block.now }
         requires shape { HasShape (part block.now self.at self.len) self.shape }
@@ -94,7 +93,7 @@ pub(crate) fn find_element(block: &[u8], chunk: u16, index: u16) -> Result<Found
 
 /// The count of an array's elements.
 ///
-/// `BadChunk` exactly where no chunk has this handle; else `BadArray` where its bytes are no
+/// `BadChunk` exactly if no chunk has this handle; otherwise `BadArray` if its bytes are no
 /// array.
 pub fn count(block: &[u8], chunk: u16) -> Result<u16, ArrayError>
     requires { IsHeap block.now }
@@ -105,11 +104,11 @@ pub fn count(block: &[u8], chunk: u16) -> Result<u16, ArrayError>
     Ok(found.shape.count)
 }
 
-/// Where an element stands: the offset of its first byte in the block, and how many bytes it
-/// has. Bytes may be written there: see `lmem_heap::writes_stay_in_their_chunk`.
+/// The offset of an element's first byte in the block, and the number of its bytes. Bytes may
+/// be written there: see `lmem_heap::writes_stay_in_their_chunk`.
 ///
-/// `BadChunk` exactly where no chunk has this handle; else `BadArray` where its bytes are no
-/// array; else `BadElement` where `index` is not below the count.
+/// `BadChunk` exactly if no chunk has this handle; otherwise `BadArray` if its bytes are no
+/// array; otherwise `BadElement` if `index` is not below the count.
 pub fn element(block: &[u8], chunk: u16, index: u16) -> Result<(u16, u16), ElementError>
     requires { IsHeap block.now }
     ensures ok { OnOk result (first_refusal (no_element (chunks block.now) chunk index) ≡ None) }

@@ -21,7 +21,7 @@ use lmem_heap::{RoomError, alloc, delete, place};
 /// where that is 0. Other chunks may move.
 ///
 /// `NeedMore` names the size that the block needs, where it is larger than the block is;
-/// `TooBig` where no block is that large.
+/// `TooBig` if no block is that large.
 pub fn create(block: &mut [u8], element_size: u16) -> Result<u16, RoomError>
     requires { IsHeap block.old }
     ensures heap { IsHeap block.new }
@@ -42,7 +42,7 @@ pub fn create(block: &mut [u8], element_size: u16) -> Result<u16, RoomError>
 
 /// Takes all elements out of an array; their size stays. Other chunks may move.
 ///
-/// `BadChunk` exactly where no chunk has this handle; else `BadArray` where its bytes are no
+/// `BadChunk` exactly if no chunk has this handle; otherwise `BadArray` if its bytes are no
 /// array.
 pub fn clear(block: &mut [u8], chunk: u16) -> Result<(), ArrayError>
     requires { IsHeap block.old }

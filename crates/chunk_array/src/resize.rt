@@ -16,11 +16,11 @@ use crate::look::find;
 use lmem_heap::{InsertError, RoomError, delete};
 
 /// Gives an element of an array whose sizes vary `len` bytes: its first ones that fit, and zeros
-/// behind them. Other chunks may move.
+/// after them. Other chunks may move.
 ///
-/// `BadChunk` exactly where no chunk has this handle; else `BadArray` where its bytes are no
-/// array, or elements have one size; else `BadElement` where `index` is not below the count; else
-/// `Room` where the block has no room: see `append`.
+/// `BadChunk` exactly if no chunk has this handle; otherwise `BadArray` if its bytes are no
+/// array, or elements have one size; otherwise `BadElement` if `index` is not below the count; otherwise
+/// `Room` if the block has no room: see `append`.
 pub fn resize_element(block: &mut [u8], chunk: u16, index: u16, len: u16) -> Result<(), GrowthError>
     requires { IsHeap block.old }
     ensures heap { IsHeap block.new }
@@ -55,7 +55,7 @@ pub fn resize_element(block: &mut [u8], chunk: u16, index: u16, len: u16) -> Res
 }
 
 /// Gives n bytes to the part of a chunk at an offset that has `has`: its first ones that fit,
-/// and zeros behind them. All room is made first.
+/// and zeros after them. All room is made first.
 fn resize_part(block: &mut [u8], c: u16, at: usize, has: usize, n: u16) -> Result<(), RoomError>
     requires heap { IsHeap block.old }
     requires chunk { IsSome (chunk_of (chunks block.old) c) }

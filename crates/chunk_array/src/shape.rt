@@ -1,4 +1,4 @@
-//! What the bytes of a chunk say of the array that they spell.
+//! What the bytes of a chunk say of the array that they encode.
 ghost use Rattle.std.specs.Prelude.{◌≡◌, ◌+◌, ◌*◌, ◌<◌, ◌≤◌, length, MatchOption};
 ghost use Rattle.geos_terms.specs.Arrays.{Array, arr, are_offsets, element_at, words_from};
 
@@ -8,7 +8,7 @@ use lmem_block::get16;
 // the offsets of the header's words
 /// How many elements there are.
 pub(crate) const COUNT: usize = 0;
-/// The size of each, 0 where sizes vary.
+/// The size of each, 0 if sizes vary.
 pub(crate) const ELEMENT_SIZE: usize = 2;
 /// 0.
 pub(crate) const ZERO: usize = 4;
@@ -22,7 +22,7 @@ pub(crate) const HEADER: usize = 8;
 #[derive(Clone, Copy)]
 pub(crate) struct Shape {
     pub(crate) count: u16,
-    /// 0 where sizes vary.
+    /// 0 if sizes vary.
     pub(crate) element_size: u16,
 }
 
@@ -40,7 +40,7 @@ impl Shape {
     ghost use Rattle.chunk_array.specs.Shapes.{HasShape};
     ghost use Rattle.chunk_array.specs.Insertions.{room_of};
 
-    /// The shape of the array that bytes spell, or none where they spell none.
+    /// The shape of the array that bytes encode, or none if they encode none.
     pub(crate) fn of(bytes: &[u8]) -> Option<Shape>
         ensures { MatchOption result (arr bytes.now ≡ None) (λ shape. HasShape bytes.now shape) }
     {
@@ -76,8 +76,7 @@ impl Shape {
         }
     }
 
-    /// Where an element begins, from the chunk's first byte on; at the count, where the last
-    /// one ends.
+    /// The offset of an element in the chunk; at the count, the end of the last element.
     pub(crate) fn start(self, bytes: &[u8], index: usize) -> usize
         requires shape { HasShape bytes.now self }
         requires known { index ≤ self.count }
@@ -95,7 +94,7 @@ impl Shape {
     }
 }
 
-/// Whether the words behind the header are offsets of so many elements, that fill the bytes.
+/// Whether the words after the header are offsets of so many elements, that fill the bytes.
 /// It stays out of those that call it, which are short where elements have one size.
 #[inline(never)]
 fn are_offsets(bytes: &[u8], count: usize) -> bool

@@ -15,8 +15,8 @@ use lmem_heap::delete;
 
 /// Takes an element out of an array. Other chunks may move.
 ///
-/// `BadChunk` exactly where no chunk has this handle; else `BadArray` where its bytes are no
-/// array; else `BadElement` where `index` is not below the count.
+/// `BadChunk` exactly if no chunk has this handle; otherwise `BadArray` if its bytes are no
+/// array; otherwise `BadElement` if `index` is not below the count.
 pub fn remove(block: &mut [u8], chunk: u16, index: u16) -> Result<(), ElementError>
     requires { IsHeap block.old }
     ensures heap { IsHeap block.new }

@@ -8,7 +8,7 @@ use lmem_block::{get16, move_bytes, put16};
 /// How many offsets are compared together.
 const RUN: usize = 16;
 
-/// How many offsets from the first one on never fall, counted in whole runs behind the first.
+/// How many offsets from the first one on never fall, counted in whole runs after the first.
 pub(crate) fn rising_offsets(bytes: &[u8], count: usize) -> usize
     requires some { 0 < count }
     requires within { 8 + 2 * count ≤ length bytes.now }
@@ -24,7 +24,7 @@ pub(crate) fn rising_offsets(bytes: &[u8], count: usize) -> usize
     RUN * runs + 1
 }
 
-/// Whether none of the offsets behind this one, a run of them, is below the one before it. It
+/// Whether none of the offsets after this one, a run of them, is below the one before it. It
 /// reads all of them, with no branch on the way, so that they can be compared together.
 fn is_rising_run(bytes: &[u8], from: usize) -> bool
     requires { 8 + 2 * (from + RUN + 1) ≤ length bytes.now }
@@ -72,7 +72,7 @@ pub(crate) fn open_table(bytes: &mut [u8], count: usize, i: usize, at: usize, n:
 }
 
 /// Takes an offset out of the table, with the n bytes of its element, which begins at `at`.
-/// The elements before it move down by 2, and those behind it stay: n + 2 bytes in front of
+/// The elements before it move down by 2, and those after it stay: n + 2 bytes before
 /// them are not used then.
 pub(crate) fn close_table(bytes: &mut [u8], count: usize, i: usize, at: usize, n: usize)
     requires order { i < count }

@@ -25,13 +25,13 @@ use vm_file::Device;
 
 /// Makes a change in a block that is in memory, for which it grows where it must, and blocks of the
 /// file that can be read again are discarded where that needs room. `BadChunk`, `BadArray`,
-/// `BadElement` and `Range` as the value's row says; `TooBig` where the block would need more than
-/// 65,520 bytes; `NoRoom` where it must grow and no stretch of the region has room for it, though
+/// `BadElement` and `Range` as the value's row says; `TooBig` if the block would need more than
+/// 65,520 bytes; `NoRoom` if it must grow and no stretch of the region has room for it, though
 /// none is left that could be discarded. A refusal leaves every block that is not discarded as it
 /// was.
 ///
-/// A block of the file is not marked by it: that is to be done before, or at once behind it. After
-/// `Lcontract` the free bytes of the block are in one piece, at its end.
+/// It does not mark a block of the file: the caller marks it before, or immediately afterwards.
+/// After `Lcontract` the free bytes of the block are in one piece, at its end.
 // Made in place, as the calls of it in the kernel and the machine are, so that the caller's choice of the change is known here.
 #[inline(always)]
 pub fn change<D: Device + Drop>(
@@ -51,13 +51,13 @@ pub fn change<D: Device + Drop>(
         Err(Obstacle::Refused(refusal)) => Err(refusal),
         Err(Obstacle::Room(room)) => grow_and_change(vm, blocks, name, change, room),
     };
-    // what lies in the region are bytes, as the block is to spell
+    // what lies in the region are bytes, as the block is to encode
     let _ = blocks.region();
     done
 }
 
-/// Makes the room that a change wants, and makes the change.
-// By itself, so that the changes that want no room are made in place.
+/// Makes the room that a change needs, and makes the change.
+// A function of its own, so that the changes that need no room are inlined.
 #[inline(never)]
 fn grow_and_change<D: Device + Drop>(
     vm: &VmBlocks<D>,

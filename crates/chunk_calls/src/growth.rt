@@ -11,7 +11,7 @@ use lmem_heap::{RoomError, enlarged};
 use vm_blocks::{NoRoom, VmBlocks};
 use vm_file::Device;
 
-/// Makes a block larger, and what is new in it free. `NoRoom` where no stretch of the region
+/// Makes a block larger, and what is new in it free. `NoRoom` if no stretch of the region
 /// has room for it, though all that may be were discarded.
 fn enlarge<D: Device + Drop>(
     vm: &VmBlocks<D>,

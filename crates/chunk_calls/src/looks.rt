@@ -12,7 +12,7 @@ use geos_calls::{Ask, Refer};
 use geos_terms::Refusal;
 use lmem_heap::{BadChunk, locate, size};
 
-/// Tells the number that a call asks for.
+/// Returns the number that a call requests.
 pub fn tell(block: &[u8], ask: Ask) -> Result<u16, Refusal>
     requires { IsHeap block.now }
     ensures { Tells (ask_edit ask) (chunks block.now) result }

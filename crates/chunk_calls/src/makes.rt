@@ -37,13 +37,13 @@ pub fn make_chunk<D: Device + Drop>(
         Err(Obstacle::Refused(refusal)) => Err(refusal),
         Err(Obstacle::Room(room)) => grow_and_make(vm, blocks, name, make, room),
     };
-    // what lies in the region are bytes, as the block is to spell
+    // what lies in the region are bytes, as the block is to encode
     let _ = blocks.region();
     made
 }
 
-/// Makes the room that a chunk wants, and makes the chunk.
-// By itself, so that the chunks that want no room are made in place.
+/// Makes the room that a chunk needs, and makes the chunk.
+// A function of its own, so that the chunks that need no room are inlined.
 #[cold]
 #[inline(never)]
 fn grow_and_make<D: Device + Drop>(

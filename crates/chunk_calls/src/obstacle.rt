@@ -1,4 +1,4 @@
-//! What stands in the way of a call on the chunks of a block, as heaps and arrays tell it.
+//! Why a call on the chunks of a block can't be done, as heaps and arrays report it.
 
 ghost use Rattle.std.specs.Prelude.{◌≡◌};
 ghost use Rattle.chunk_calls.specs.Refused.{why_no_array, why_no_chunk, why_no_element, why_not_appended};
@@ -8,7 +8,7 @@ use chunk_array::{AppendError, ArrayError, ElementError, GrowthError};
 use geos_terms::Refusal;
 use lmem_heap::{BadChunk, DeleteError, InsertError, ReallocError, RoomError};
 
-/// What stands in the way of a call.
+/// Why a call can't be done.
 #[derive(Clone, Copy)]
 pub(crate) enum Obstacle {
     /// It is refused.

@@ -6,11 +6,11 @@ ghost use Rattle.std.specs.Prelude.{◌≡◌, ◌<◌, ◌≤◌, ◌+◌, fals
 #[derive(Clone, Copy)]
 pub enum Counting {
     Nothing,
-    /// The counter is so much behind it, at most.
+    /// After it the counter is at most this.
     Sets(u8, u16),
     /// A unit is taken from the counter.
     Takes(u8),
-    /// Nothing is known of these counters behind it.
+    /// After it nothing is known of these counters.
     Forgets([bool; 4]),
 }
 
@@ -19,7 +19,7 @@ pub enum Counting {
 pub struct Arc {
     /// Where it leads.
     pub to: u16,
-    /// The budget of the routine that is called; 0 where none is.
+    /// The budget of the routine that is called; 0 if none is.
     pub called: u32,
     pub counting: Counting,
     ghost inside: { to < 4096 },
@@ -38,7 +38,7 @@ impl Arc {
         1 + u64::from(self.called)
     }
 
-    /// Whether it asks for what is behind it of a counter's coefficient.
+    /// Whether the coefficient of a counter before it has to be at least that after it.
     pub fn keeps(&self, counter: u8) -> bool
         ensures { result ≡ keeps self.now.counting counter }
     {
@@ -49,7 +49,7 @@ impl Arc {
         }
     }
 
-    /// Whether nothing is known of a counter behind it.
+    /// Whether nothing is known of a counter after it.
     pub fn forgets(&self, counter: u8) -> bool
         ensures { result ≡ forgets self.now.counting counter }
     {

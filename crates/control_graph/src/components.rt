@@ -17,11 +17,11 @@ use std::alloc::{AllocError, Global};
 #[derive(Drop)]
 pub struct Components {
     depth: Depth,
-    /// The component of each place, by its number from 1 on; 0 where it is not known.
+    /// The component of each place, by its number from 1 on; 0 if it is not known.
     pub of: Table<u16>,
     /// The places of each component.
     lists: Lists,
-    /// Where each component ends in the order, once they are arranged.
+    /// The end of each component in the order, after they are arranged.
     pub ends: Table<u16>,
     /// How many there are.
     pub count: u16,
@@ -78,7 +78,7 @@ impl Components {
         self.add(edge.from);
     }
 
-    /// Where a place is of the last component, those from which edges lead there are, if they are of no other.
+    /// If an instruction belongs to the last component, adds to that component all its predecessors that belong to no other.
     fn add_before(&mut self, graph: &Graph, jumps: &Jumps, order: &Order, piece: &Piece, to: u16)
         requires inside { to < 4096 }
     {
@@ -139,7 +139,7 @@ impl Components {
         }
     }
 
-    /// Puts the places of a component where it begins in a piece, and behind there; where it ends.
+    /// Puts the instructions of a component at the indices from `begin` on. Returns the index after the last.
     fn gather(&self, order: &mut Order, piece: &Piece, component: u16, begin: u16) -> u16
         requires { component < 4096 }
     {
@@ -163,8 +163,8 @@ impl Components {
         x
     }
 
-    /// Orders the places of a piece by their components, those that lead to others behind these; each in the order in which a search in
-    /// depth leaves its places. All others stand where they did.
+    /// Orders the instructions of a piece by their components, each component after those that it leads to, and within a component in the
+    /// postorder of a depth-first search. Instructions outside the piece keep their indices.
     pub fn arrange(&mut self, graph: &Graph, jumps: &Jumps, order: &mut Order, piece: &Piece) {
         self.find(graph, jumps, order, piece);
         self.list_places();

@@ -33,7 +33,7 @@ impl Graph {
         ensures { (at : ℕ) (branch : Bool) → arc_at self.new.arcs at branch ≡ None }
     {
         self.arcs.fill_from(0, [None, None]);
-        // For what its law says.
+        // Recalls the lemma.
         self.arcs.lengths();
         self.leads.clear_from(pc);
     }
@@ -44,14 +44,14 @@ impl Graph {
         ensures here { (branch : Bool) → arc_at self.new.arcs pc branch ≡ (if branch then branching else along) }
         ensures others { (at : ℕ) (branch : Bool) → at ≢ pc → arc_at self.new.arcs at branch ≡ arc_at self.old.arcs at branch }
     {
-        // For what its law says.
+        // Recalls the lemma.
         self.arcs.lengths();
         let arcs = [along, branching];
         self.leads.add(pc, &arcs);
         self.arcs.set(pc, arcs);
     }
 
-    /// The edge of the instruction at a pc, to its target where `branch` says so.
+    /// The edge of the instruction at a pc: to its target if `branch`, otherwise to the next instruction.
     pub fn arc(&self, pc: u16, branch: bool) -> Option<Arc>
         requires { pc < 4096 }
         ensures { result ≡ arc_at self.now.arcs pc branch }

@@ -39,7 +39,7 @@ impl Jump {
 /// What is found of the way from each place to its target.
 pub type Jumps = Table<Jump>;
 
-/// Where an edge leads that stays in a piece, and is no LOOP's way to its target that is left out or pays.
+/// The target of an edge that stays in a piece, unless it is the taken edge of a LOOP that is left out or pays.
 pub fn lead_within(
     graph: &Graph,
     jumps: &Jumps,

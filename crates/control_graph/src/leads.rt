@@ -14,12 +14,12 @@ pub struct Lead {
     ghost inside: { from < 4096 },
 }
 
-/// The edges into each place, as a list: its first one, and behind each edge the next.
+/// The edges into each instruction, as a linked list: the first edge, and for each edge the next.
 #[derive(Drop)]
 pub struct Leads {
     /// The first edge into each place.
     pub first: Table<Option<Lead>>,
-    /// Behind the edge of each place to the next instruction, and behind the one to its target.
+    /// The list's next edge, for the edge of each pc to the next instruction, and for the one to its target.
     pub behind: Table<[Option<Lead>; 2]>,
 }
 

@@ -13,7 +13,7 @@ pub(crate) struct Left {
     ghost inside: { n < 4096 },
 }
 
-/// The places of each component, in the order in which the search has left them: the first one, and behind each the next.
+/// The instructions of each component, as a linked list in the order in which the search left them.
 #[derive(Drop)]
 pub(crate) struct Lists {
     first: Table<Option<Left>>,
@@ -51,7 +51,7 @@ impl Lists {
         self.first.at(component)
     }
 
-    /// The next one behind a place.
+    /// The next one after an instruction.
     pub(crate) fn next(&self, place: Left) -> Option<Left> {
         self.behind.at(place.n)
     }

@@ -27,9 +27,9 @@ impl Piece {
 /// The places of a routine in some order.
 #[derive(Drop)]
 pub struct Order {
-    /// The place that stands first, and so on.
+    /// The instruction at each index.
     pub places: Table<Place>,
-    /// Where each place stands.
+    /// The index of each instruction.
     pub at: Table<u16>,
 }
 
@@ -43,7 +43,7 @@ impl Order {
         Ok(Order { places, at })
     }
 
-    /// The places from one on up to another stand in the order of their pcs; the piece that they are.
+    /// Puts the instructions from `start` up to `end` in the order of their pcs, and returns the piece that they form.
     pub fn begin(&mut self, start: u16, end: u16) -> Piece
         requires { end ≤ 4096 }
     {
@@ -53,7 +53,7 @@ impl Order {
         Piece { begin: start, end }
     }
 
-    /// A place stands here.
+    /// Stores an instruction at an index.
     fn put(&mut self, x: u16, pc: u16)
         requires here { x < 4096 }
         requires place { pc < 4096 }
@@ -62,7 +62,7 @@ impl Order {
         self.at.set(pc, x);
     }
 
-    /// A place stands here, and the place that stood here stands where that one did.
+    /// Swaps an instruction with the one at an index.
     pub(crate) fn swap(&mut self, x: u16, pc: u16)
         requires here { x < 4096 }
         requires place { pc < 4096 }
@@ -74,7 +74,7 @@ impl Order {
         self.put(x, pc);
     }
 
-    /// The place that stands here.
+    /// The instruction at an index.
     pub fn place(&self, x: u16) -> u16
         requires { x < 4096 }
         ensures stands { StandsAt self.now x result }

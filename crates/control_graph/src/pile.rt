@@ -31,7 +31,7 @@ impl Pile {
         ensures { IfOk result (λ pile. (at : ℕ) → Waits pile at → ⊥) }
     {
         let (places, has) = two_tables(alloc, Place { pc: 0 }, false)?;
-        // For what its law says.
+        // Recalls the lemma.
         has.lengths();
         Ok(Pile {
             places,
@@ -50,7 +50,7 @@ impl Pile {
         if self.has.at(pc) {
             return;
         }
-        // For what its law says.
+        // Recalls the lemma.
         self.places.lengths();
         self.places.set(self.count, Place { pc });
         self.has.set(pc, true);

@@ -14,7 +14,7 @@ use vm_blocks::VmBlocks;
 use vm_file::Device;
 
 /// Makes a change in a group, which is brought into memory first, and marked where the change is
-/// made. `BadHandle` where no group has this handle; `NoRoom` and `Disk` where it does not come into
+/// made. `BadHandle` if no group has this handle; `NoRoom` and `Disk` if it does not come into
 /// memory; then what `chunk_calls::change` refuses.
 pub fn item_change<D: Device + Drop>(
     vm: &mut VmBlocks<D>,
@@ -34,13 +34,13 @@ pub fn item_change<D: Device + Drop>(
         Ok(()) => {}
         Err(refusal) => return Err(refusal),
     }
-    // what lies in the region are bytes, as the group is to spell
+    // what lies in the region are bytes, as the group is to encode
     let _ = blocks.region();
     vm.vdirty_changed(blocks, group);
     Ok(())
 }
 
-/// Makes a chunk in a group, which is brought into memory first and marked behind it, and answers its
+/// Makes a chunk in a group, which is brought into memory first and marked after it, and answers its
 /// handle: the lowest one of the group that is free. It is refused as `item_change` is.
 pub fn item_make<D: Device + Drop>(
     vm: &mut VmBlocks<D>,

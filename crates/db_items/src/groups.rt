@@ -24,7 +24,7 @@ pub fn is_group<D: Device + Drop>(vm: &VmBlocks<D>, group: u16) -> bool
 }
 
 /// Makes a group of 64 bytes without an item under the lowest handle of the file that is free, in
-/// memory and marked, but not locked. `NoHandle` where all 1,024 are listed; then `NoRoom` where no
+/// memory and marked, but not locked. `NoHandle` if all 1,024 are listed; then `NoRoom` if no
 /// stretch of the region has room, though every block of the file that is neither marked nor locked
 /// was discarded.
 pub fn group_new<D: Device + Drop>(
@@ -51,8 +51,8 @@ pub fn group_new<D: Device + Drop>(
     }
 }
 
-/// Frees a group, and its items with it: it is listed no more, the map item is none where it was
-/// mapped, and it leaves the memory. `BadHandle` where no group has this handle, `Locked` where it is
+/// Frees a group, and its items with it: it is listed no more, the map item is none if it was
+/// mapped, and it leaves the memory. `BadHandle` if no group has this handle, `Locked` if it is
 /// locked; nothing changes then.
 pub fn group_free<D: Device + Drop>(
     vm: &mut VmBlocks<D>,
@@ -79,7 +79,7 @@ pub fn group_free<D: Device + Drop>(
     }
 }
 
-/// Brings a group into memory, and does not lock it. `BadHandle` where no group has this handle;
+/// Brings a group into memory, and does not lock it. `BadHandle` if no group has this handle;
 /// `NoRoom` and `Disk` as `VmBlocks::bring` has them.
 pub(crate) fn bring_group<D: Device + Drop>(
     vm: &mut VmBlocks<D>,

@@ -12,8 +12,8 @@ use vm_blocks::VmBlocks;
 use vm_file::Device;
 
 /// Makes an item of `len` zero bytes, and answers its handle: the lowest one of the group that is free.
-/// `BadHandle` where no group has this handle; `NoRoom` and `Disk` where it does not come into memory;
-/// `TooBig` where it would need more than 65,520 bytes; `NoRoom` where it must grow and no stretch of
+/// `BadHandle` if no group has this handle; `NoRoom` and `Disk` if it does not come into memory;
+/// `TooBig` if it would need more than 65,520 bytes; `NoRoom` if it must grow and no stretch of
 /// the region has room for it. The group is marked where none of these comes.
 pub fn item_new<D: Device + Drop>(
     vm: &mut VmBlocks<D>,
@@ -41,7 +41,7 @@ pub fn item_free<D: Device + Drop>(
     item_change(vm, blocks, group, Change::Lfree { c: item })
 }
 
-/// Gives an item `len` bytes: the first ones that fit, and zeros behind them. It is refused as `item_free`
+/// Gives an item `len` bytes: the first ones that fit, and zeros after them. It is refused as `item_free`
 /// is, and then with `TooBig` and `NoRoom` as `item_new` is.
 pub fn item_realloc<D: Device + Drop>(
     vm: &mut VmBlocks<D>,
@@ -56,8 +56,8 @@ pub fn item_realloc<D: Device + Drop>(
     item_change(vm, blocks, group, Change::Lrealloc { c: item, n: len })
 }
 
-/// Puts `len` zero bytes into an item at an offset. It is refused as `item_realloc` is, with `Range` behind
-/// `BadChunk` where the offset is past the item's end.
+/// Puts `len` zero bytes into an item at an offset. It is refused as `item_realloc` is, with `Range` after
+/// `BadChunk` if the offset is past the item's end.
 pub fn item_insert<D: Device + Drop>(
     vm: &mut VmBlocks<D>,
     blocks: &mut Blocks,
@@ -82,8 +82,8 @@ pub fn item_insert<D: Device + Drop>(
     )
 }
 
-/// Takes `len` bytes out of an item at an offset. It is refused as `item_free` is, with `Range` behind
-/// `BadChunk` where the bytes go past the item's end.
+/// Takes `len` bytes out of an item at an offset. It is refused as `item_free` is, with `Range` after
+/// `BadChunk` if the bytes go past the item's end.
 pub fn item_delete<D: Device + Drop>(
     vm: &mut VmBlocks<D>,
     blocks: &mut Blocks,

@@ -1,7 +1,7 @@
 //! Groups and items of a VM file.
 //!
 //! A group is a block of the file with a user ID of its own, and its items are the chunks of the heap
-//! that it holds. A call on an item brings its group into memory, and marks it behind each change.
+//! that it holds. A call on an item brings its group into memory, and marks it after each change.
 //! (GEOS SDK Concepts Book, chapter Database Library.)
 #![tactic(auto)]
 

@@ -26,9 +26,9 @@ fn is_full<D: Device + Drop>(vm: &VmBlocks<D>, blocks: &Blocks, g: u16) -> bool
 }
 
 /// Locks a group once more, which brings it into memory, for an item of `len` bytes at least: answers
-/// the item's offset in the group, and its length. `BadHandle` where no group has this handle, `Locked`
-/// where its count is 65,535, `NoRoom` and `Disk` where it does not come into memory, `BadChunk` where it
-/// has no such item, `Short` where that has fewer bytes. It is locked only where none of these comes.
+/// the item's offset in the group, and its length. `BadHandle` if no group has this handle, `Locked`
+/// where its count is 65,535, `NoRoom` and `Disk` if it does not come into memory, `BadChunk` if it
+/// has no such item, `Short` if that has fewer bytes. It is locked only where none of these comes.
 pub fn item_lock_part<D: Device + Drop>(
     vm: &mut VmBlocks<D>,
     blocks: &mut Blocks,

@@ -20,8 +20,8 @@ pub fn map_item<D: Device + Drop>(vm: &VmBlocks<D>) -> (u16, u16)
     vm.map_item()
 }
 
-/// Names the map item: a group, and any number for an item of it; or 0 and 0 for none. `BadHandle` where
-/// the group is neither 0 nor a group, `Range` where it is 0 and the item is not; nothing changes then.
+/// Names the map item: a group, and any number for an item of it; or 0 and 0 for none. `BadHandle` if
+/// the group is neither 0 nor a group, `Range` if it is 0 and the item is not; nothing changes then.
 pub fn set_map_item<D: Device + Drop>(
     vm: &mut VmBlocks<D>,
     group: u16,

@@ -118,7 +118,7 @@ impl Draft {
         Ok(Answer::Done)
     }
 
-    /// Puts an entry behind the others, where there is room for it.
+    /// Puts an entry after the others, where there is room for it.
     fn add(&mut self, entry: Entry) {
         let _ = self.directory.entries.try_push(entry);
     }

@@ -1,4 +1,4 @@
-//! Bytes of a device that are kept, and opened as often as is wanted: whole, cut, or with some of them changed.
+//! Bytes of a device that are kept, and opened as often as is required: whole, cut, or with some of them changed.
 
 use crate::answer::Answer;
 use std::alloc::{AllocError, Global};

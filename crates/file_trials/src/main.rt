@@ -70,7 +70,7 @@ impl Bench {
         }
     }
 
-    /// All bytes of the device; none where there is no device, or it fails.
+    /// All bytes of the device; none if there is no device, or it fails.
     fn bytes(&mut self, alloc: Global) -> Result<Option<Vec<u8>>, AllocError> {
         match self {
             Bench::Memory(stand) => stand.bytes(alloc),

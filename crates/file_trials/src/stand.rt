@@ -124,7 +124,7 @@ impl<D: Device + Drop> Stand<D> {
         }
     }
 
-    /// All bytes of the device, for which a file is closed; none where there is no device, or it fails.
+    /// All bytes of the device, for which a file is closed; none if there is no device, or it fails.
     pub(crate) fn bytes(&mut self, alloc: Global) -> Result<Option<Vec<u8>>, AllocError> {
         let Some(mut device) = self.take() else {
             return Ok(None);
@@ -190,7 +190,7 @@ fn on_bytes<D: Device + Drop>(
     })
 }
 
-/// Writes up to six bytes, which stand in the line behind their place and number.
+/// Writes up to six bytes, which stand in the line after their place and number.
 fn write<D: Device + Drop>(device: &mut FaultDevice<D>, line: &Line<'_>) -> Answer {
     let bytes = line.numbers.map(|number| number.min(255) as u8);
     let end = (line.numbers[1] as usize).saturating_add(2);

@@ -82,12 +82,12 @@ pub fn assemble_with_lines(alloc: Global, text: &[u8]) -> Result<Assembled, Asse
 /// The image of an assembly text, of version 2: its routines and instructions, with potentials that are found for them, and with
 /// rows at its key places.
 ///
-/// `BadLine` exactly where the text has a fault, and names the first one. `NoRows` only for a
+/// `BadLine` exactly if the text has a fault, and names the first one. `NoRows` only for a
 /// text without fault; it names a routine in which no rows and numbers of steps hold, if that has
 /// no LOOP, no edge that leads back, and an edge of its own into each instruction but the first.
-/// Where there is no LOOP, no edge leads back, and each instruction but a routine's first has an
-/// edge into it, the verifier accepts the image if it accepts any with the text's code; it may
-/// refuse the image that is answered, and `geos_verify::check` says where. `Memory` may come at
+/// If there is no LOOP and no back edge, and each instruction except a routine's first has an
+/// edge into it, the verifier accepts the image if it accepts any with the text's code. Otherwise
+/// it may refuse the returned image, and `geos_verify::check` says where. `Memory` is possible for
 /// any text.
 pub fn assemble(alloc: Global, text: &[u8]) -> Result<Image, AssembleError>
     ensures image { IfOk result (IsAssembled text.now) }

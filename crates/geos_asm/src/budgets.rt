@@ -18,14 +18,14 @@ use std::alloc::{AllocError, Global};
 /// The most routines of a text: a chain of calls has no more.
 const MOST_ROUTINES: u8 = 32;
 
-/// Where the first line ends, if it ends with a line feed.
+/// The end of the first line, if it ends with a line feed.
 fn first_feed(text: &[u8]) -> Option<usize>
     ensures { result ≡ position (λ byte. byte == 10) text.now }
 {
     text.iter().position(|byte| *byte == b'\n')
 }
 
-/// The first line with its end, and the text behind it.
+/// The first line with its end, and the text after it.
 fn first_whole_line(text: &[u8]) -> (&[u8], &[u8])
     requires { 0 < length text.now }
     ensures line { whole_lines text.now ≡ result.0.now ∷ whole_lines result.1.now }
@@ -70,7 +70,7 @@ fn is_header(front: &[u8]) -> bool
     }
 }
 
-/// Whether a word may begin behind these bytes.
+/// Whether a word may begin after these bytes.
 fn begins_word(front: &[u8]) -> bool
     ensures { result ≡ begins_word front.now }
 {
@@ -80,7 +80,7 @@ fn begins_word(front: &[u8]) -> bool
     }
 }
 
-/// Whether a word ends in front of these bytes.
+/// Whether a word ends before these bytes.
 fn ends_word(behind: &[u8]) -> bool
     ensures { result ≡ ends_word behind.now }
 {
@@ -90,7 +90,7 @@ fn ends_word(behind: &[u8]) -> bool
     }
 }
 
-/// Where the last word of a line begins and ends, in front of a comment.
+/// The start and the end of the last word of a line before its comment.
 fn last_word(line: &[u8]) -> (usize, usize)
     ensures { (result.0 ≤ result.1) × (result.1 ≤ length line.now) }
 {
@@ -107,7 +107,7 @@ fn last_word(line: &[u8]) -> (usize, usize)
     (start, end)
 }
 
-/// A line that begins a routine, up to its budget, the budget, and what stands behind it.
+/// The parts of a line that begins a routine: up to its budget, the budget, and the rest.
 fn cut(line: &[u8]) -> Option<(&[u8], &[u8], &[u8])>
     ensures { IfSome result (λ parts. IsCutRound line.now (record { front = parts.0.now; budget = parts.1.now; behind = parts.2.now })) }
 {
@@ -245,8 +245,8 @@ pub fn find_budgets(alloc: Global, text: &[u8]) -> Result<Budgeted, BudgetError>
 /// The text with the least budget that is found for each routine in the place of its own: the constant of the potential at its first
 /// instruction. A `?` may stand for a budget. All other bytes stay.
 ///
-/// The faults are those of `assemble`, of the text with other budgets; or `CallsOn`, with the line of the first CALL of a routine that does
-/// not stand before its own; or `NotSet`, with that of a LOOP which takes from a counter that nothing sets on a way to it.
+/// The faults are those of `assemble`, for the text with other budgets; or `CallsOn`, with the line of the first CALL of a routine that is not
+/// before the caller; or `NotSet`, with the line of a LOOP that takes from a counter that nothing sets on some path to it.
 pub fn with_least_budgets(alloc: Global, text: &[u8]) -> Result<Vec<u8>, BudgetError>
     ensures budgeted { IfOk result (λ new. IsBudgeted text.now new.items) }
     ensures fault { IfErr result (IsWhyNoBudgets text.now) }

@@ -1,4 +1,4 @@
-//! Calls of routines that do not stand before the one that calls: the verifier refuses them, whatever the budgets are.
+//! Calls of routines that are not before the caller: the verifier refuses them, whatever the budgets are.
 
 ghost use Rattle.std.specs.Prelude.{◌≡◌, ◌<◌, length, IfNone, IfSome};
 ghost use Rattle.geos_asm.specs.Calls.{calls_on, line_at, CallsOnAt, CallBefore, CallBeforeIn};
@@ -6,14 +6,14 @@ ghost use Rattle.geos_asm.specs.Calls.{calls_on, line_at, CallsOnAt, CallBefore,
 use geos_image::{Image, Instr};
 use geos_verify::calls;
 
-/// Whether the instruction calls a routine that does not stand before routine r.
+/// Whether the instruction calls a routine that is not before routine r.
 fn calls_on(r: u16, i: &Instr) -> bool
     ensures { result ≡ calls_on r i.now }
 {
     calls(i.opcode) && i.imm >= r
 }
 
-/// The first instruction of routine r that calls one that does not stand before it.
+/// The first instruction of routine r that calls one that is not before it.
 fn calling_on(image: &Image, r: u16) -> Option<u16>
     requires { r < length image.now.routines }
     ensures some { IfSome result (CallsOnAt image.now) }

@@ -21,8 +21,8 @@ use std::alloc::{AllocError, Global};
 pub enum Unassembled {
     /// The text has a fault: its first faulty line, and why.
     BadLine(BadLine),
-    /// The text has no fault. For the routine that begins at this line no rows or no numbers of steps are found, for this cause. Behind it
-    /// stands what the text is read to.
+    /// The text has no fault. For the routine that begins at this line no rows or no numbers of steps are found, for this cause. The parsed
+    /// text follows.
     NoRows(usize, Cause, Parsed),
     /// An allocation was refused.
     Memory,
@@ -67,8 +67,8 @@ fn cause_of(alloc: Global, image: &Image, finding: &Finding) -> Result<Cause, Al
     }
 }
 
-/// The image of an assembly text, with the line of each instruction, where `assemble` answers one; else why there is none. Where no rows
-/// are found, that is a cause which holds of the routine, and tells of what stopped the search for rows and numbers of steps there.
+/// The image of an assembly text, with the line of each instruction, if `assemble` returns one; otherwise why there is none. If no rows
+/// are found, that is a cause that holds for the routine, and says what stopped the search for rows and numbers of steps there.
 pub fn assemble_or_tell(alloc: Global, text: &[u8]) -> Result<Assembled, Unassembled>
     ensures image { IfOk result (λ made. IsAssembled text.now made.image) }
     ensures version { IfOk result (λ made. made.image.keyed ≡ true) }

@@ -47,7 +47,7 @@ fn owes_at(image: &Image, k: u8, pc: u16) -> bool
     }
 }
 
-/// The edges of a routine's instructions that leave a counter alone, and behind which steps are owed for it.
+/// The edges of a routine's instructions that leave a counter unchanged, and after which steps are owed for it.
 #[derive(Clone, Copy)]
 struct Unset<'a> {
     image: &'a Image,
@@ -87,7 +87,8 @@ impl<'a> Counting for Unset<'a> {
     }
 }
 
-/// Where ways lead from a routine's first instruction on which the counter is left alone, and steps are owed for it.
+/// The instructions that a path from a routine's first instruction reaches that leaves the counter unchanged, and on which steps are owed
+/// for it.
 fn unset_from(graph: &Graph, unset: &Unset) -> Marks
     requires same { graph.now.image.now ≡ unset.now.image.now }
     requires within { unset.now.start < 4096 }

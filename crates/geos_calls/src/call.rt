@@ -16,7 +16,7 @@ pub enum Change {
     Ldel { c: u16, at: u16, n: u16 },
     /// Moves the chunks together.
     Lcontract,
-    /// Puts an element of zeros behind the others of an array.
+    /// Puts an element of zeros after the others of an array.
     Caadd { c: u16, n: u16 },
     /// Puts one at an index, which may be the count.
     Cains { c: u16, i: u16, n: u16 },

@@ -1,4 +1,4 @@
-//! The laws of the table of calls.
+//! Lemmas on the table of calls.
 
 ghost use Rattle.geos_calls.specs.Keeping.{RowsKeepMemory};
 ghost use Rattle.geos_calls.specs.Leaving.{RowsLeave};
@@ -14,16 +14,13 @@ pub fn rows_keep_memory()
     ensures { RowsKeepMemory }
 {}
 
-/// What each row of the table of calls leaves. A refusal leaves memory as it was; or it is of a
-/// commit whose device failed late, and the device may hold the pair that was to be kept, too.
-/// The references that a row makes stale are the same whether it is done or refused. A row leaves
-/// every block that it is not on as it was. It leaves what is mapped, but where it maps something
-/// else, frees what is mapped, or goes back to the saved directory; that directory, but where it
-/// saves; what the device holds, but where it commits; and the length of the file's areas. Where
-/// it is done, counts of locks and marks are as `Leaving` has them: at most one count changes,
-/// since a commit is asked only where no block of the file is locked; and an update or a save
-/// leaves each block of the file as it was, but its mark. (GEOS SDK Concepts Book,
-/// chapters Memory Management, Virtual Memory and Database Library.)
+/// What each row of the table of calls leaves unchanged. A refusal leaves memory unchanged, except that of a commit whose device failed
+/// late: then the device may also hold the pair that was to be committed. A row makes the same references stale whether it is done or
+/// refused. A row leaves every block unchanged that it does not name. It leaves what is mapped, unless it maps something different, frees
+/// what is mapped, or reverts to the saved directory. It leaves the saved directory, unless it saves; the contents of the device, unless
+/// it commits; and the length of the file's areas. If it is done, lock counts and marks are as `Leaving` has them: at most one count
+/// changes, since a commit requires that no block of the file is locked; and an update or a save leaves each block of the file unchanged
+/// except for its mark. (GEOS SDK Concepts Book, chapters Memory Management, Virtual Memory and Database Library.)
 pub fn rows_leave()
     ensures { RowsLeave }
 {}

@@ -7,24 +7,23 @@ use geos_flow::Edge;
 use geos_image::{Row, SlotState};
 use geos_verify::slot_fits;
 
-/// A CALL that leaves a slot empty which is held before it: the lines `in` and `out` of the routine that it calls do not say that the
-/// slot is held.
+/// A CALL after which a slot is empty that was locked before it: the `in` and `out` lines of the called routine do not name the slot.
 #[derive(Clone, Copy)]
 pub struct Emptied {
     /// The pc of the CALL.
     pub at: u16,
     /// What the slot holds before it.
     pub state: SlotState,
-    /// The name of the routine that it calls, with zeros behind it.
+    /// The name of the routine that it calls, with zeros after it.
     pub callee: [u8; 16],
-    /// Whether that routine stands before the one of the CALL, as it has to.
+    /// Whether that routine is before the one of the CALL, as required.
     pub stands_before: bool,
 }
 
 /// How control comes to a place.
 #[derive(Clone, Copy)]
 pub struct Coming {
-    /// The edge that it comes along; `None` where the routine begins at the place.
+    /// The edge that it comes along; `None` if the routine begins at the place.
     pub from: Option<Edge>,
     /// What is known then, of slots above all.
     pub row: Row,

@@ -1,6 +1,6 @@
-//! A way by which control goes round.
+//! An edge that closes a cycle.
 
-/// An edge to a target by which control goes round: one that leads back, or that of a LOOP.
+/// An edge to a target that closes a cycle: a back edge, or that of a LOOP.
 #[derive(Clone, Copy)]
 pub struct BackWay {
     /// The pc of the instruction that it comes from.

@@ -40,7 +40,7 @@ pub struct LoopPair {
     pub other_at: u16,
 }
 
-/// Two of the loops in a ring that wait each on the next, one behind the other.
+/// Two of the loops in a ring that wait each on the next, one after the other.
 #[derive(Clone, Copy)]
 pub struct LoopRing {
     /// The way of the first LOOP to its target.
@@ -53,7 +53,7 @@ pub struct LoopRing {
     pub next: BackWay,
     /// The counter that it takes from.
     pub next_counter: u8,
-    /// The pc in its loop where the counter of the one behind it is set.
+    /// The pc in its loop where the counter of the one after it is set.
     pub next_at: u16,
     /// The counter that this one takes from.
     pub third_counter: u8,
@@ -84,7 +84,7 @@ pub struct ByNumber {
 pub enum Cause {
     /// Ways of control meet, and slots differ in more than marks.
     SlotsDiffer(Apart),
-    /// A way leads back on a way round that nothing pays for.
+    /// A back edge is on a cycle that nothing pays for.
     NoLoop(BackWay),
     /// The counter of a loop is set within it.
     SetWithin(Within),
@@ -92,7 +92,7 @@ pub enum Cause {
     SetAgain(Within),
     /// A routine that is called within the loop of a counter touches it.
     TouchedWithin(Within),
-    /// A routine that is called before the loop of a counter touches it, and it is not set behind that.
+    /// A routine that is called before the loop of a counter touches it, and it is not set after that.
     TouchedBefore(Within),
     /// On a way to a LOOP nothing sets its counter.
     NotSet(LoopOn),
@@ -113,10 +113,10 @@ pub enum Cause {
     NumberDear(ByNumber),
     /// The search for numbers of steps was given up, as it took too long.
     GivenUp(BackWay),
-    /// No way leads back, and on some way more steps are taken than a potential can say, if LOOPs may go either way.
+    /// There is no back edge, and some path takes more steps than the greatest potential, if LOOPs may go either way.
     StepsMayPass,
-    /// None of these was found; a way leads back, and whichever way control goes round, it takes the way to its target of a LOOP that may
-    /// pay: on each way to it the counter is set.
+    /// None of these was found. There is a back edge, and each cycle takes the edge to the target of a LOOP that may pay: on each path to that
+    /// LOOP its counter is set.
     NoSteps(BackWay),
     /// None of these was found, and a way leads back.
     Unfound(BackWay),

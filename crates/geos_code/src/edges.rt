@@ -1,4 +1,4 @@
-//! Where control goes from an instruction, within its routine.
+//! The edges of an instruction within its routine.
 
 ghost use Rattle.std.specs.Prelude.{◌≡◌, ◌<◌, ◌≤◌, false, slice_get, IfSome};
 ghost use Rattle.geos_code.specs.Code.{is_loop, ForwardIn, IsPcOf, TargetAhead, edge_end};

@@ -12,7 +12,7 @@ use pc_tables::Table;
 /// What is known at each pc.
 pub type Known = Table<Option<Row>>;
 
-/// A law: how long the lists of a row are.
+/// Lemma: how long the lists of a row are.
 fn lengths(
     bounds: &[u16; 8],
     slots: &[SlotState; 4],
@@ -25,7 +25,7 @@ fn lengths(
     ensures pairs { length pairs.now ≡ 6 }
 {}
 
-/// A law: each row has the shape that the format wants.
+/// Lemma: each row has the shape that the format requires.
 pub fn shape(row: &Row)
     ensures { is_shaped row.now ≡ true }
 {

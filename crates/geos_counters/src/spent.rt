@@ -1,4 +1,4 @@
-//! Which counters routines touch: behind a call nothing is known of those that the called routine does.
+//! Which counters routines touch: after a call nothing is known of those that the called routine does.
 
 ghost use Rattle.std.specs.Prelude.{◌≡◌};
 ghost use Rattle.geos_verify.specs.Touched.{noted};
@@ -21,7 +21,7 @@ pub fn find_touched(image: &Image) -> Touched
 }
 
 /// Which counters each routine may touch: those that the table says, or all, where it says too little, since a routine calls one
-/// behind it.
+/// after it.
 fn may_touch(image: &Image, table: &Touched) -> Touched
     ensures { NotesAllTouched image.now result }
 {

@@ -6,7 +6,7 @@ ghost use Rattle.geos_counters.specs.Steps.{taken_at};
 use geos_code::Body;
 use geos_image::Opcode;
 
-/// The budget of the routine that the instruction at a pc calls; 0 where it calls none.
+/// The budget of the routine that the instruction at a pc calls; 0 if it calls none.
 pub fn called_at(body: &Body, pc: u16) -> u32
     requires { pc < body.now.end }
     ensures { 1 + result ≡ taken_at body.now.image.now pc }

@@ -159,7 +159,7 @@ fn cause_of_halt(
     }
 }
 
-/// Why a LOOP may not pay on a way round on which none may, if there is one.
+/// Why a LOOP may not pay on a cycle on which none may, if there is one.
 fn cause_of_idle(
     alloc: Global,
     body: &Body,
@@ -184,7 +184,8 @@ fn cause_of_idle(
     Ok(cause)
 }
 
-/// Where in a component the counter of a LOOP is set for it, whatever it was at the loop's head, as the cause where nests lack that.
+/// The instruction of a component that sets the counter of a LOOP for it, whatever it was at the loop's head, as the cause if nests lack
+/// that.
 fn cause_of_set_in_turn(
     body: &Body,
     touching: &Touching,
@@ -289,7 +290,7 @@ fn cause_of_back(
     if some_always_may_pay(alloc, body, touching, known)? {
         Ok(Cause::NoSteps(back))
     } else {
-        // Else a way round would have been found before: that it would be is not proved.
+        // Otherwise a cycle would have been found before; that is not proved.
         Ok(Cause::Unfound(back))
     }
 }
@@ -307,8 +308,8 @@ fn cause_of_many(alloc: Global, body: &Body) -> Result<Cause, AllocError>
     cause_ahead(alloc, body)
 }
 
-/// Why no numbers of steps are found for a routine with loops, for which a search has halted. That the steps pass the limit comes first:
-/// then none are enough, whatever else there is.
+/// Why no numbers of steps are found for a routine with loops, whose search has halted. Steps above the limit are reported first: then no
+/// number is enough, whatever other reasons there are.
 fn cause_of_loops(
     alloc: Global,
     body: &Body,
@@ -354,7 +355,7 @@ fn cause_of_steps(
 
 /// Why `find_potentials` finds no numbers of steps for a routine with the rows that are known, which hold wherever control reaches in it: of
 /// what may be the cause, the first that is found. What the cause says holds of that routine, and tells of the reason (`tells`, by
-/// `specs/Tells`). `GivenUp`, `NoSteps`, `Unfound` and `Unknown` say that no reason was found, and what is not one. `AllocError` where the
+/// `specs/Tells`). `GivenUp`, `NoSteps`, `Unfound` and `Unknown` say that no reason was found, and what is not one. `AllocError` if the
 /// allocator refuses memory.
 pub fn find_cause(
     alloc: Global,

@@ -15,7 +15,7 @@ use geos_image::MOST_INSTRS;
 use geos_potentials::Splitting;
 use loop_causes::{Trails, find_set_within, loop_at, set_for};
 
-/// How many pairs of LOOPs are looked at.
+/// The most pairs of LOOPs that are tried.
 const PAIRS: u16 = 256;
 
 /// The nest that the LOOP at a pc pays in.
@@ -136,7 +136,7 @@ fn tight_piece(splitting: &Splitting, pc: u16) -> Option<Piece>
     }
 }
 
-/// Where the counter of a LOOP is set within its own loop, among those that were paid for again and again.
+/// The instruction that sets the counter of a LOOP within its own loop, among the nests that were paid for again and again.
 pub(crate) fn find_own_set(
     body: &Body,
     touching: &Touching,

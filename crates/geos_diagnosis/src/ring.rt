@@ -28,7 +28,7 @@ struct Awaited {
     at: u16,
 }
 
-/// The LOOP that pays in a nest, up to which its counter is kept from where it is set in another.
+/// The LOOP that pays in a nest, and to which a path from where another nest sets its counter leaves the counter unchanged.
 fn set_in(
     body: &Body,
     graph: &Graph,
@@ -127,7 +127,7 @@ fn wait_on(
     false
 }
 
-/// The loop, and its counter, that one comes to who goes on, from that of a LOOP, to the one for which each waits.
+/// The last loop, and its counter, of the chain in which each loop waits for the next, from that of a LOOP on.
 fn last_awaited(
     body: &Body,
     touching: &Touching,

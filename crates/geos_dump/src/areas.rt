@@ -17,7 +17,7 @@ pub struct Areas {
 }
 
 /// Reads what the header and the selector of a file say of its areas; whether the device holds a
-/// file, `VmFile::open` tells. `Disk` where the device fails, as it does past its length.
+/// file, `VmFile::open` tells. `Disk` if the device fails, as it does past its length.
 pub fn read_areas<D: Device>(device: &mut D) -> Result<Areas, Disk>
     ensures size { D.medium.honest device.old
         → IfOk result (λ areas. areas.size ≡ word (D.medium.image device.old) 8 + 65536 * word (D.medium.image device.old) 10) }

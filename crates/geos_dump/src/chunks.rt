@@ -10,7 +10,7 @@ use geos_text::{Part, put_parts};
 use lmem_block::{locate, next};
 use std::alloc::AllocError;
 
-/// The bytes of a handle's chunk; none where no chunk has this handle.
+/// The bytes of a handle's chunk; none if no chunk has this handle.
 pub(crate) fn bytes_of(block: &[u8], c: u16) -> &[u8]
     requires { IsHeap block.now }
     ensures value { result.now ≡ bytes_of (chunks block.now) c }

@@ -1,4 +1,4 @@
-//! Why a file was not told.
+//! Why a file was not printed.
 ghost use Rattle.std.specs.Prelude.{◌≡◌};
 ghost use Rattle.geos_dump.specs.declared.error.DumpError.TheVariants as error;
 
@@ -6,7 +6,7 @@ use std::alloc::{AllocError, AllocFailed};
 use thiserror::Error;
 use vm_file::Disk;
 
-/// Why a file was not told.
+/// Why a file was not printed.
 #[derive(Clone, Copy, Debug, Drop, Error)]
 pub enum DumpError {
     /// The device failed, or gave bytes that are no heap under the block's handle.

@@ -70,7 +70,7 @@ fn put_shown(out: &mut Vec<u8>, bytes: &[u8]) -> Result<(), AllocError> {
     out.extend_from_slice(b"\n")
 }
 
-/// A line of at most 16 bytes, of which the first stands at an offset.
+/// A line of at most 16 bytes, with the offset of the first.
 fn put_hex_line(out: &mut Vec<u8>, at: usize, bytes: &[u8]) -> Result<(), AllocError>
     requires { at < 65536 }
 {

@@ -41,7 +41,7 @@ fn put_chunk(objects: &mut JsonLines, side: &str, entry: Entry, c: u16, chunk: &
     objects.end()
 }
 
-/// Appends a block or a group, and its chunks or items, with their bytes if they are asked for.
+/// Appends a block or a group, and its chunks or items, with their bytes if those are requested.
 pub(crate) fn put_block_objects(
     out: &mut Vec<u8>,
     side: &str,

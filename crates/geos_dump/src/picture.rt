@@ -20,7 +20,7 @@ use vm_file::{Device, Directory, Entry, GROUP_UID, VmFile};
 /// The least width of a picture, in columns.
 pub const LEAST_WIDTH: u16 = 60;
 
-/// The columns in front of a block's bar.
+/// The columns before a block's bar.
 const FRONT: u16 = 25;
 
 /// How the bars of blocks are drawn.
@@ -43,7 +43,7 @@ fn taken<D: Device + Drop>(file: &VmFile<D>, side: Side) -> u32
     bytes
 }
 
-/// The size of the longest block of a directory, or 0 where it has none.
+/// The size of the longest block of a directory, or 0 if it has none.
 fn longest<D: Device + Drop>(file: &VmFile<D>, side: Side) -> u16 {
     let sizes = directory(file, side).entries.iter().map(|e| e.len);
     sizes.max().unwrap_or(0)
@@ -95,7 +95,7 @@ pub(crate) fn used_bytes(block: &[u8]) -> u16
     block.len() as u16 - total_free(block)
 }
 
-/// The line of a directory and, where it has blocks, that of their columns, behind an empty line.
+/// The line of a directory and, where it has blocks, that of their columns, after an empty line.
 pub(crate) fn put_columns_line(
     out: &mut Vec<u8>,
     word: &str,
@@ -117,8 +117,8 @@ pub(crate) fn put_columns_line(
 /// line is longer than `width` columns, of which fewer than 60 count as 60.
 ///
 /// It reads each block once, through one buffer of the greatest block's size, and writes
-/// nothing. `Disk` where the device fails, or gives bytes that are no heap under the block's
-/// handle; `Memory` where an allocation is refused.
+/// nothing. `Disk` if the device fails, or gives bytes that are no heap under the block's
+/// handle; `Memory` if an allocation is refused.
 pub fn map<D: Device + Drop>(
     alloc: Global,
     file: &mut VmFile<D>,

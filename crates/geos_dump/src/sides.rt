@@ -61,7 +61,7 @@ pub(crate) fn entry_at<D: Device + Drop>(file: &VmFile<D>, side: Side, i: usize)
 }
 
 /// Reads the bytes of a block on a side straight into a slice that is as long as its entry
-/// says. `Disk` where the device fails, or gives bytes that are no heap with that handle.
+/// says. `Disk` if the device fails, or gives bytes that are no heap with that handle.
 pub(crate) fn read_block<D: Device + Drop>(
     file: &mut VmFile<D>,
     side: Side,

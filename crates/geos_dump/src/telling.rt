@@ -1,4 +1,4 @@
-//! What is told of a file: the text of what it keeps, or a picture of how full its blocks are.
+//! What is printed of a file: the text of its contents, or a picture of how full its blocks are.
 
 ghost use Rattle.std.specs.Prelude.{◌≡◌, ◌≤◌, ◌<◌, length};
 ghost use Rattle.geos_terms.specs.Heap.{IsHeap, most_block_bytes};
@@ -13,7 +13,7 @@ use geos_terms::MOST_BLOCK_BYTES;
 use std::alloc::{AllocError, Global};
 use vm_file::{Device, Directory, Entry, VmFile};
 
-/// What is told of a file.
+/// What is printed of a file.
 #[derive(Clone, Copy)]
 pub(crate) enum Telling {
     /// The text of what it keeps.
@@ -22,7 +22,7 @@ pub(crate) enum Telling {
     Picture(Scale),
 }
 
-/// What is told of a block.
+/// What is printed of a block.
 fn put_told(
     out: &mut Vec<u8>,
     telling: Telling,
@@ -39,7 +39,7 @@ fn put_told(
     }
 }
 
-/// What stands in front of the blocks of a directory.
+/// What is printed before the blocks of a directory.
 fn put_head(
     out: &mut Vec<u8>,
     telling: Telling,

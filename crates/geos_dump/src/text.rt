@@ -14,7 +14,7 @@ use geos_text::{Part, put_parts};
 use std::alloc::{AllocError, Global};
 use vm_file::{Device, Directory, Entry, VmFile};
 
-/// How much is told of a block.
+/// How much is printed of a block.
 #[derive(Clone, Copy)]
 pub enum Detail {
     /// A line for each block.
@@ -44,7 +44,7 @@ fn put_block_line(out: &mut Vec<u8>, h: u16, uid: u16, bytes: &[u8]) -> Result<(
     out.extend_from_slice(b"\n")
 }
 
-/// What is told of a block of the directory that the word names.
+/// What is printed of a block of the directory that the word names.
 pub(crate) fn put_block_text(
     out: &mut Vec<u8>,
     detail: Detail,
@@ -65,7 +65,7 @@ pub(crate) fn put_block_text(
     }
 }
 
-/// What stands in front of the blocks of a directory.
+/// What is printed before the blocks of a directory.
 pub(crate) fn put_directory_text(
     out: &mut Vec<u8>,
     detail: Detail,
@@ -78,7 +78,7 @@ pub(crate) fn put_directory_text(
     }
 }
 
-/// The line of a directory, behind a word.
+/// The line of a directory, after a word.
 pub(crate) fn put_directory_line(
     out: &mut Vec<u8>,
     word: &str,
@@ -97,14 +97,13 @@ pub(crate) fn put_directory_line(
     )
 }
 
-/// The text of what a file keeps: for the current directory and for the saved one a line with
-/// its map block and its map item, and a line for each block with its handle, its user ID, its
-/// size in bytes, and the handles and lengths of its chunks. With `Detail::Bytes` the bytes of
-/// its chunks stand below that, as `xxd` prints them. `Detail::Objects` and `Detail::WholeObjects` are the same as JSON objects.
+/// The text of a file's contents: for the current directory and for the saved one a line with its map block and its map item, and a line
+/// for each block with its handle, its user ID, its size in bytes, and the handles and lengths of its chunks. With `Detail::Bytes` the
+/// bytes of its chunks follow, as `xxd` prints them. `Detail::Objects` and `Detail::WholeObjects` are the same as JSON objects.
 ///
 /// It reads each block once, through one buffer of the greatest block's size, and writes
-/// nothing. `Disk` where the device fails, or gives bytes that are no heap under the block's
-/// handle; `Memory` where an allocation is refused.
+/// nothing. `Disk` if the device fails, or gives bytes that are no heap under the block's
+/// handle; `Memory` if an allocation is refused.
 pub fn dump<D: Device + Drop>(
     alloc: Global,
     file: &mut VmFile<D>,

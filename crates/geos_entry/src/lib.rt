@@ -1,6 +1,6 @@
 //! Entry rows: which words a routine may be called with.
 //!
-//! docs/MODEL.md says when a run may be asked for.
+//! docs/MODEL.md says when a run is admitted.
 #![tactic(auto)]
 
 ghost use Rattle.std.specs.Prelude.{◌≡◌};

@@ -26,7 +26,7 @@ pub fn end_of(edge: Edge, i: &Instr) -> usize
     }
 }
 
-/// The pc that the edge leads to, if the image has it and an instruction stands there.
+/// The target of the edge, if the image has the edge and an instruction there.
 pub(crate) fn end_in(image: &Image, edge: Edge) -> Option<u16>
     ensures { result ≡ end_in image.now edge }
 {

@@ -9,13 +9,13 @@ use crate::pending::Pending;
 use crate::search::Counting;
 use geos_image::Image;
 
-/// An image, and for each of its pcs the edges that lead there, as a list: the first one, and behind each the next.
+/// An image, and for each of its pcs the edges that lead there, as a list: the first one, and after each the next.
 #[derive(Clone, Copy)]
 pub struct Graph<'a> {
     /// The image.
     pub image: &'a Image,
     first: [Option<Edge>; 4096],
-    /// Behind each edge, by its number, another to the same pc.
+    /// After each edge, by its number, another to the same pc.
     behind: [Option<Edge>; 8192],
     ghost short: { length image.now.points ≤ 4096 },
     ghost into: { AreInto image.now (2 * length image.now.points) first behind },

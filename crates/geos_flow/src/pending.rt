@@ -1,4 +1,4 @@
-//! Pcs that wait to be looked at: the first or the last of them is found without a look at each that does not.
+//! The worklist of pcs: the first or the last of them is found without a visit to each of the others.
 
 ghost use Rattle.std.specs.Prelude.{◌≡◌, ◌<◌, ◌≤◌, ◌+◌, true, false, slice_set, MatchOption};
 ghost use Rattle.geos_flow.specs.Marks.{no_marks, is_marked};
@@ -99,7 +99,7 @@ impl Pending {
         }
     }
 
-    /// Behind a pc that does not wait: the next one, or, where none of its block waits, the first behind that.
+    /// After a pc that does not wait: the next one, or, where none of its block waits, the first after that.
     fn next(&self, pc: u16) -> u16
         requires low { pc < 4096 }
         requires not { is_marked self.now pc ≡ false }

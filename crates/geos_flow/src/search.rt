@@ -33,7 +33,7 @@ pub trait Counting {
         ensures { result ≡ counted self.now edge end };
 }
 
-/// Where a step along the edge leads, whose end is this pc.
+/// The pc that a step along the edge reaches; the edge's target is given.
 fn step_end(heading: Heading, edge: Edge, end: u16) -> u16
     ensures { result ≡ (step_along heading edge.from end).to }
 {
@@ -131,7 +131,7 @@ fn begun(marks: &Marks) -> Waiting
     waiting
 }
 
-/// Marks all that edges that count lead to from what is marked, or from where they lead there. Each edge is looked at once at most.
+/// Marks all pcs that are reachable from marked ones along counted edges, forwards or backwards. Each edge is visited at most once.
 pub fn follow<C: Counting>(graph: &Graph, heading: Heading, counting: &C, marks: &mut Marks)
     ensures { MarksWhatIsLed (step_by graph.now.image.now heading (C.counted counting.now)) marks.old marks.new }
 {

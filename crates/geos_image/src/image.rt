@@ -22,13 +22,13 @@ use std::marker::Model;
 /// Routines and their instructions, each instruction with its entry state and potential. An
 /// image is always one that the format allows (docs/FORMATS.md).
 ///
-/// It gives an entry state at each place, in version 1, or at its key places alone, in version 2.
+/// In version 1 it gives an entry state at each place, in version 2 only at its key places.
 #[derive(Drop)]
 pub struct Image {
     pub(crate) keyed: bool,
     pub(crate) routines: Vec<Routine>,
     pub(crate) points: Vec<Point>,
-    /// A flag for each place of an image that was read: where one behind another is flagged, its entry state is that of the other.
+    /// A flag for each place of an image that was read: where one after another is flagged, its entry state is that of the other.
     pub(crate) repeats: Option<Vec<bool>>,
 }
 
@@ -46,7 +46,7 @@ impl Model for Image {
         × AreNoted i.repeats i.points.items };
 }
 
-/// Whether each routine may stand behind those before it.
+/// Whether each routine may follow the earlier ones.
 fn are_routines(borrows: bool, routines: &[Routine]) -> bool
     ensures { result ≡ are_routines borrows [] routines.now }
 {
@@ -68,7 +68,7 @@ fn are_points(borrows: bool, routines: u32, points: &[Point]) -> bool
         .all(|point| is_point(borrows, routines, instrs, point))
 }
 
-/// Whether a row stands at each point that is flagged, and at no other.
+/// Whether exactly the flagged points have rows.
 fn rows_stand(flags: &Flags, points: &[Point]) -> bool
     requires { length points.now ≤ MOST_INSTRS }
     ensures { result ≡ rows_stand flags.now points.now }
@@ -122,7 +122,7 @@ fn is_short(routines: &[Routine], points: &[Point]) -> bool
 }
 
 impl Image {
-    /// The image of version 1 of these routines and points; `None` exactly where the format allows none. It
+    /// The image of version 1 of these routines and points; `None` exactly if the format allows none. It
     /// takes no memory.
     pub fn new(routines: Vec<Routine>, points: Vec<Point>) -> Option<Image>
         ensures some { IsSome result ↔ IsTrue (is_image (record { keyed = false; routines = routines.items; points = points.items })) }
@@ -140,8 +140,7 @@ impl Image {
         }
     }
 
-    /// The image of routines and points that are known to be such as the format allows: nothing is looked at. `keyed`
-    /// says whether it is of version 2.
+    /// The image of routines and points that are known to be legal: nothing is tested. `keyed` says whether it is of version 2.
     pub fn of_legal(keyed: bool, routines: Vec<Routine>, points: Vec<Point>) -> Image
         requires { is_image (record { keyed = keyed; routines = routines.items; points = points.items }) ≡ true }
         ensures { result ≡ record { keyed = keyed; routines = routines.items; points = points.items } }
@@ -155,7 +154,7 @@ impl Image {
     }
 
     /// The image of version 2 of these routines and points, with these rows at its key places, in their order; `None`
-    /// exactly where the format allows none. Rows that points have are not looked at. It takes no memory.
+    /// exactly if the format allows none. Rows that points have are not looked at. It takes no memory.
     pub fn with_keys(routines: Vec<Routine>, points: Vec<Point>, rows: Vec<Row>) -> Option<Image>
         ensures some { IsSome result ↔ IsTrue (is_keyed routines.items points.items rows.items) }
         ensures value { IfSome result (λ image. image ≡ keyed_parts routines.items points.items rows.items) }
@@ -240,7 +239,7 @@ impl Image {
         ensures fields { FieldsFit result.now.opcode result.now }
         ensures target { TargetFits (length self.now.points) result.now }
         ensures callee { CalleeFits (length self.now.routines) result.now }
-        // Rows are given where it leads by its label, and behind it where control does not go on.
+        // Rows are given where it leads by its label, and after it where control does not continue.
         ensures led { branches result.now.opcode ≡ true → gives self.now result.now.target ≡ true }
         ensures cut { falls_through result.now.opcode ≡ false → pc + 1 < length self.now.points → gives self.now (pc + 1) ≡ true }
     {
@@ -248,7 +247,7 @@ impl Image {
     }
 
     /// Whether the pc is a key place: the first one of a routine, one to which an instruction may lead by its label,
-    /// or one behind an instruction from which control does not go on. In version 1 that takes a look at every
+    /// or one after an instruction from which control does not continue. In version 1 that takes a look at every
     /// instruction.
     pub fn key(&self, pc: u16) -> bool
         requires { pc < length self.now.points }
@@ -262,7 +261,7 @@ impl Image {
         }
     }
 
-    /// Whether the image gives an entry state at the pc: in version 1 at each, in version 2 at the key places alone.
+    /// Whether the image gives an entry state at the pc: in version 1 at each, in version 2 only at the key places.
     pub fn gives(&self, pc: u16) -> bool
         requires { pc < length self.now.points }
         ensures { result ≡ gives self.now pc }
@@ -278,7 +277,7 @@ impl Image {
         &self.points[pc as usize].row
     }
 
-    /// Whether it is known that the place behind `pc` is given the entry state that `pc` is given. The reader notes it where the bytes are
+    /// Whether it is known that the place after `pc` is given the entry state that `pc` is given. The reader notes it where the bytes are
     /// the same, which is not promised; of images that were made of points nothing is known.
     pub fn repeats(&self, pc: u16) -> bool
         requires { pc + 1 < length self.now.points }

@@ -8,7 +8,7 @@ use geos_opcodes::{Field, Opcode};
 /// An instruction. `Opcode::operands` says what each field holds; unused fields are 0.
 #[derive(Clone, Copy)]
 pub struct Instr {
-    // The opcode comes behind these three: one number of the four has the opcode at its top, so that the machine takes it by a shift.
+    // The opcode comes after these three: one number of the four has the opcode at its top, so that the machine takes it by a shift.
     pub a: u8,
     pub b: u8,
     pub c: u8,

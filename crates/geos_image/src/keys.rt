@@ -24,7 +24,7 @@ pub(crate) fn no_flags() -> Flags
     [false; 4096]
 }
 
-/// Whether control may go on to the next instruction.
+/// Whether control may continue to the next instruction.
 #[inline(always)]
 pub fn falls_through(opcode: Opcode) -> bool
     ensures { result ≡ falls_through opcode }
@@ -68,7 +68,7 @@ fn flag_starts(routines: &[Routine], flags: &mut Flags)
     }
 }
 
-/// Flags the place to which the instruction may lead by its label, and the one behind it where control does not go
+/// Flags the place to which the instruction may lead by its label, and the one after it where control does not go
 /// on.
 fn flag_at(pc: usize, i: &Instr, flags: &mut Flags)
     requires { pc < MOST_INSTRS }
@@ -115,7 +115,7 @@ pub(crate) fn flag_count(flags: &Flags, points: &[Point]) -> usize
     count
 }
 
-/// Gives a point the next row if it is flagged and there is one, and else none.
+/// Gives a point the next row if it is flagged and there is one, and otherwise none.
 fn set_row(point: &mut Point, flag: bool, rows: &[Row], next: usize)
     ensures { point.new ≡ record point.old { row = row_for flag rows.now next } }
 {

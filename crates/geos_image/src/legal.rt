@@ -24,7 +24,7 @@ fn is_name_byte(byte: u8) -> bool
     byte.is_ascii_alphanumeric() || byte == b'_'
 }
 
-/// Where the text of a padded name ends, if zeros follow it.
+/// The end of the text of a padded name, if only zeros follow it.
 pub(crate) fn text_end(name: &[u8]) -> Option<usize>
     ensures place { result ≡ text_end name.now }
     ensures within { IfSome result (λ end. end < length name.now) }
@@ -128,7 +128,7 @@ fn is_given(borrows: bool, row: &Option<Row>) -> bool
     }
 }
 
-/// Whether a point may stand in an image with so many routines and instructions. `borrows` says whether slots may be
+/// Whether a point is legal in an image with so many routines and instructions. `borrows` says whether slots may be
 /// borrowed.
 pub(crate) fn is_point(borrows: bool, routines: u32, instrs: u32, point: &Point) -> bool
     ensures { result ≡ is_point borrows routines instrs point.now }
@@ -136,7 +136,7 @@ pub(crate) fn is_point(borrows: bool, routines: u32, instrs: u32, point: &Point)
     is_instr(routines, instrs, &point.instr) && is_given(borrows, &point.row)
 }
 
-/// Whether a routine may stand behind the earlier ones. `borrows` says whether slots may be borrowed.
+/// Whether a routine may follow the earlier ones. `borrows` says whether slots may be borrowed.
 pub(crate) fn is_routine(borrows: bool, earlier: &[Routine], routine: &Routine) -> bool
     ensures { result ≡ is_routine borrows earlier.now routine.now }
 {

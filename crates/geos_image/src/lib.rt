@@ -1,5 +1,5 @@
-//! Images of routines: their instructions, what the verifier is told at each of them, and
-//! their bytes.
+//! Images of routines: their instructions with rows and potentials for the verifier, and their
+//! bytes.
 //!
 //! docs/FORMATS.md has the format, docs/INSTRUCTIONS.md the instructions.
 #![tactic(auto)]

@@ -4,7 +4,7 @@ use crate::instr::Instr;
 use crate::potential::Potential;
 use crate::row::Row;
 
-/// A program point: an instruction, and what the verifier is told at it.
+/// A program point: an instruction with its row and its potential.
 #[derive(Clone, Copy)]
 pub struct Point {
     pub instr: Instr,

@@ -1,4 +1,4 @@
-//! The image that bytes spell.
+//! The image that bytes encode.
 
 ghost use Rattle.std.specs.Prelude.{◌≡◌, ◌<◌, ◌≤◌, ◌^◌, length, true, false, IfOk};
 ghost use Rattle.geos_image.specs.Reading.{image_at, whole_at, keyed_at, Gives};
@@ -20,7 +20,7 @@ use crate::reader::routines::{header_at, routines_at};
 use crate::routine::Routine;
 use std::alloc::Global;
 
-/// The image of version 1 whose rows and potentials stand from an offset on.
+/// The image of version 1 whose rows and potentials begin at an offset.
 #[tactic(auto, unfolding(crate::specs::Reading::whole_at))]
 fn whole_at(
     alloc: Global,
@@ -50,7 +50,7 @@ fn whole_at(
     }
 }
 
-/// The image of version 2 whose potentials and rows stand from an offset on.
+/// The image of version 2 whose potentials and rows begin at an offset.
 #[tactic(auto, unfolding(crate::specs::Reading::keyed_at))]
 fn keyed_at(
     alloc: Global,
@@ -86,7 +86,7 @@ fn keyed_at(
     }
 }
 
-/// The image that the bytes spell; no other bytes do. A fault is named by the offset of the
+/// The image that the bytes encode; no other bytes do. A fault is named by the offset of the
 /// first byte of the first field, in file order, that is cut or breaks its rule.
 #[tactic(auto, unfolding(crate::specs::Reading::image_at))]
 pub fn read(alloc: Global, bytes: &[u8]) -> Result<Image, ReadError>

@@ -24,7 +24,7 @@ pub struct Routine {
 }
 
 impl Routine {
-    /// The name without the zeros behind it.
+    /// The name without the zeros after it.
     pub fn name_text(&self) -> &[u8]
         ensures { result.now ≡ take (unwrap_or (text_end self.now.name) 16) self.now.name }
     {

@@ -21,7 +21,7 @@ pub enum SlotState {
 }
 
 impl SlotState {
-    /// The byte that spells it.
+    /// The byte that encodes it.
     pub(crate) fn code(self) -> u8
         ensures { result ≡ slot_code self }
     {
@@ -46,7 +46,7 @@ impl SlotState {
         }
     }
 
-    /// The state that the byte spells, if it spells one. `borrows` says whether a slot may be borrowed.
+    /// The state that the byte encodes, if it encodes one. `borrows` says whether a slot may be borrowed.
     #[tactic(auto, using(crate::proofs::SlotLaws::slot_is_named))]
     #[inline(always)]
     pub(crate) fn from_code(borrows: bool, code: u8) -> Option<SlotState>
@@ -79,7 +79,7 @@ impl SlotState {
 pub struct Pointer {
     /// The slot whose block it leads into, 0 to 3.
     pub slot: u8,
-    /// At least so many bytes stand behind it.
+    /// The least number of bytes from the pointer on.
     pub least: u16,
 }
 
@@ -98,7 +98,7 @@ pub struct Row {
 }
 
 impl Row {
-    /// The open row: nothing is known of the words and pointers, and no slot is held.
+    /// The open row: nothing is known of the words and pointers, and all slots are empty.
     pub fn open() -> Row
         ensures { result ≡ open_row }
     {

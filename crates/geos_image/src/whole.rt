@@ -31,7 +31,7 @@ impl Model for Whole {
 }
 
 impl Whole {
-    /// The code of routines and points that are known to be such as the format allows: nothing is looked at.
+    /// The code of routines and points that are known to be legal: nothing is tested.
     pub fn of_formed(routines: Vec<Routine>, points: Vec<Point>) -> Whole
         requires { is_formed true (record { keyed = false; routines = routines.items; points = points.items }) ≡ true }
         ensures { result ≡ record { keyed = false; routines = routines.items; points = points.items } }
@@ -63,7 +63,7 @@ impl Whole {
         }
     }
 
-    /// The image of version 1, with all rows; `None` exactly where a slot is borrowed. It takes no memory.
+    /// The image of version 1, with all rows; `None` exactly if a slot is borrowed. It takes no memory.
     pub fn into_image(self) -> Option<Image>
         ensures some { IsSome result ↔ IsTrue (is_image self) }
         ensures value { IfSome result (λ image. image ≡ self) }

@@ -1,4 +1,4 @@
-//! The bytes that spell an image.
+//! The bytes that encode an image.
 
 ghost use Rattle.std.specs.Prelude.{◌≡◌, ◌++◌, OnOk, IfOk, map};
 ghost use Rattle.std.specs.List.{flat_map, All};
@@ -203,7 +203,7 @@ fn put_rest(out: &mut Vec<u8>, keyed: bool, points: &[Point]) -> Result<(), Allo
     }
 }
 
-/// The bytes that spell the image: reading them gives the image again.
+/// The bytes that encode the image: reading them gives the image again.
 pub fn write(alloc: Global, image: &Image) -> Result<Vec<u8>, AllocError>
     ensures value { IfOk result (λ v. v.items ≡ spelling image.now) }
     ensures only { IfOk result (λ v. image_at v.items ≡ Ok image.now) }

@@ -33,7 +33,7 @@ pub struct Finding {
 }
 
 impl Finding {
-    /// The routine alone.
+    /// Only the routine.
     pub(crate) fn into_routine(self) -> u16
         ensures { result ≡ self.routine }
     {

@@ -60,8 +60,8 @@ struct Solved {
     potentials: Potentials,
 }
 
-/// Finds rows, then numbers of steps for each routine that has rows; else what stops that. A routine for which no steps are found comes
-/// before the first one that has no rows.
+/// Finds rows, then numbers of steps for each routine that has rows; otherwise what prevents that. A routine for which no steps are found
+/// is reported before the first one that has no rows.
 fn solve(alloc: Global, image: &Image) -> Result<Solved, FindError>
     ensures flowed { IfOk result (λ solved. HaveFlowed image.now solved.known (length image.now.routines)) }
     ensures fit { IfOk result (λ solved. (r : ℕ) → r < length image.now.routines → FitWhereReached image.now r solved.known) }
@@ -117,20 +117,20 @@ pub fn find_image(alloc: Global, skeleton: &Image) -> Result<Whole, FindError>
 /// potential at each instruction that are found for it; those of the skeleton are not looked at. `Whole::into_keyed`
 /// leaves those rows out that the verifier computes.
 ///
-/// The rows hold wherever control reaches, in loops too, so that the verifier's rules on rows pass
+/// The rows hold at each reachable instruction, in loops too, so that the verifier's rules on rows pass
 /// there (`rows_that_hold_pass`).
 ///
-/// In a routine with loops, the potentials pay for its edges and returns, and each constant is at most any that does with the rows and
-/// coefficients that are answered. Each coefficient is that of a LOOP which takes from the counter, and asks for it on some way.
+/// In a routine with loops, the potentials pay for its edges and returns, and each constant is the least that does with the returned rows
+/// and coefficients. Each coefficient is that of a LOOP that takes from the counter, and some path leads from the coefficient to that LOOP.
 ///
-/// Where there is no LOOP, no edge leads back, and each instruction but a routine's first has an
-/// edge into it, the verifier accepts what is answered, in version 2 too, if it accepts any image with that code.
-/// It may be such that the verifier refuses it: then `geos_verify::check` says where. `NoRows` names a
-/// routine for which no rows or no potentials were found; that it is the first such one is not
-/// proved. If it has no LOOP, no edge that leads back, and an edge of its own into each instruction
-/// but the first, no rows and numbers of steps hold in it, whatever the others are. For want of rows it comes only at the first routine
-/// where ways of control meet with slots that differ in more than marks; where they do in one, no image is answered. Where they do not, it
-/// comes only with a reason that is so (`reason`): what that reason is, `find_potentials` answers.
+/// If there is no LOOP and no back edge, and each instruction except a routine's first has an edge into it, the verifier accepts the
+/// result, in version 2 too, if it accepts any image with that code. Otherwise the verifier may refuse the result, and
+/// `geos_verify::check` says where.
+///
+/// `NoRows` names a routine for which no rows or no potentials were found; that it is the first one is not proved. If that routine has no
+/// LOOP and no back edge, and an edge of its own into each instruction except the first, no rows and numbers of steps hold in it, whatever
+/// the other routines are. Without rows, `NoRows` names the first routine in which paths join with slots that differ in more than marks;
+/// if some routine has such a join, no image is returned. Otherwise `NoRows` carries a true reason (`reason`), that of `find_potentials`.
 pub fn infer(alloc: Global, skeleton: &Image) -> Result<Whole, InferError>
     ensures code { IfOk result (λ whole. SameCode skeleton.now whole) }
     ensures all { IfOk result (λ whole. whole.keyed ≡ false) }
@@ -153,14 +153,14 @@ pub fn infer(alloc: Global, skeleton: &Image) -> Result<Whole, InferError>
     }
 }
 
-/// A law: where the rows of an image hold, the verifier's rules on rows pass wherever control reaches. No
-/// pointer leads into an empty slot where the image gives a row, a routine's entry row fits its first row, and the row after an edge
-/// fits the row there, where no edge leaves the routine.
+/// Lemma: if the rows of an image hold, the verifier's rules on rows pass at each reachable instruction. No pointer of a stored row leads
+/// into an empty slot, a routine's entry row implies its first row, and the row after an edge implies the row at its target, if no edge
+/// leaves the routine.
 pub fn rows_that_hold_pass()
     ensures { RowsThatHoldPass }
 {}
 
-/// A law: where rows at each place hold, they do in version 2 too (`Whole::into_keyed`).
+/// Lemma: if the rows at all instructions hold, they hold in version 2 too (`Whole::into_keyed`).
 pub fn kept_rows_hold()
     ensures { KeptRowsHold }
 {}

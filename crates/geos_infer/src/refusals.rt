@@ -2,14 +2,14 @@
 
 ghost use Rattle.geos_infer.specs.Refusals.{NoneIsAcceptedFor, NoneIsAcceptedPast};
 
-/// A law: where on some way in a routine more steps are taken than a potential can say, and words are as much there as they may be in each
-/// image, no image with that code is accepted.
+/// Lemma: if some path in a routine takes more steps than the greatest potential, with words as large as each image allows there, no image
+/// with that code is accepted.
 pub fn none_is_accepted_past()
     ensures { NoneIsAcceptedPast }
 {}
 
-/// A law: where nothing pays for a way back, a call leaves the counter of a LOOP, or steps pass what a potential can say, no image with that
-/// code is accepted.
+/// Lemma: if nothing pays for a back edge, a call touches the counter of a LOOP, or the steps exceed the greatest potential, no image with
+/// that code is accepted.
 pub fn none_is_accepted_for()
     ensures { NoneIsAcceptedFor }
 {}

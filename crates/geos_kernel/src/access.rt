@@ -109,7 +109,7 @@ impl<D: Device + Drop> Kernel<D> {
         if len == 0 {
             return;
         }
-        // what lies in the region are bytes, as a block that is copied to is to spell
+        // what lies in the region are bytes, as a block that is copied to is to encode
         let _ = blocks.region();
         blocks.copy(from.at, to.at, u32::from(len));
     }

@@ -32,10 +32,9 @@ impl<D: Device + Drop> Kernel<D> {
         self.make_chunk(name, Make::Canew { element_size })
     }
 
-    /// Puts an element of zeros behind the others, of `len` bytes where sizes vary. `BadChunk`
-    /// where no chunk of the block has this handle, `BadArray` where its bytes are no array;
-    /// else refused as `lalloc` is, by the room that the larger array needs, and makes stale
-    /// what `canew` does.
+    /// Appends an element of zeros, of `len` bytes if sizes vary. `BadChunk` if no chunk of the
+    /// block has this handle, `BadArray` if its bytes are no array; otherwise refused as `lalloc`
+    /// is, by the room that the larger array needs, and makes stale what `canew` does.
     pub fn caadd(&mut self, name: Name, chunk: u16, len: u16) -> Result<(), Refusal>
         requires locked { IsLocked self.old.core name }
         requires marked { MayChange self.old.core name }
@@ -49,8 +48,8 @@ impl<D: Device + Drop> Kernel<D> {
     }
 
     /// Puts an element of zeros at an index, which may be the count, of `len` bytes where sizes
-    /// vary. `BadChunk` and `BadArray` as `caadd`, `BadElement` where the index is above the
-    /// count; else refused, and makes stale, as `caadd`.
+    /// vary. `BadChunk` and `BadArray` as `caadd`, `BadElement` if the index is above the
+    /// count; otherwise refused, and makes stale, as `caadd`.
     pub fn cains(&mut self, name: Name, chunk: u16, index: u16, len: u16) -> Result<(), Refusal>
         requires locked { IsLocked self.old.core name }
         requires marked { MayChange self.old.core name }
@@ -70,7 +69,7 @@ impl<D: Device + Drop> Kernel<D> {
         )
     }
 
-    /// Takes an element out. `BadChunk` and `BadArray` as `caadd`, `BadElement` where no
+    /// Takes an element out. `BadChunk` and `BadArray` as `caadd`, `BadElement` if no
     /// element has this index. Makes stale what `canew` does.
     pub fn cadel(&mut self, name: Name, chunk: u16, index: u16) -> Result<(), Refusal>
         requires locked { IsLocked self.old.core name }
@@ -83,8 +82,8 @@ impl<D: Device + Drop> Kernel<D> {
         self.change(name, Change::Cadel { c: chunk, i: index })
     }
 
-    /// The count of an array's elements. `BadChunk` where no chunk of the block has this
-    /// handle, `BadArray` where its bytes are no array.
+    /// The count of an array's elements. `BadChunk` if no chunk of the block has this
+    /// handle, `BadArray` if its bytes are no array.
     pub fn cacount(&self, name: Name, chunk: u16) -> Result<u16, Refusal>
         requires { IsLocked self.now.core name }
         ensures { Calls (D.medium.honest self.now.device) (table.cacount name chunk) result self.now.core self.now.core }
@@ -92,10 +91,10 @@ impl<D: Device + Drop> Kernel<D> {
         self.ask(name, Ask::Cacount { c: chunk })
     }
 
-    /// Where an element's bytes lie, which must be `least` at least. `BadChunk` where no chunk of
-    /// the block has this handle, `BadArray` where its bytes are no array, `BadElement` where
-    /// it has no element of this index, `Short` where the element has fewer bytes. The span
-    /// stands until a call makes the chunk's references stale.
+    /// The span of an element's bytes, at least `least`. `BadChunk` if no chunk of the block has
+    /// this handle, `BadArray` if its bytes are no array, `BadElement` if it has no element of this
+    /// index, `Short` if the element has fewer bytes. The span is valid until a call makes the
+    /// chunk's references stale.
     pub fn caelt(&self, name: Name, chunk: u16, index: u16, least: u16) -> Result<Span, Refusal>
         requires { IsLocked self.now.core name }
         ensures gives { GivesSpan (D.medium.honest self.now.device) (table.caelt name chunk index least) result self.now.core }
@@ -126,8 +125,8 @@ impl<D: Device + Drop> Kernel<D> {
     }
 
     /// Gives an element of an array whose sizes vary `len` bytes: its first ones that fit, and
-    /// zeros behind them. `BadChunk` as `caadd`, `BadArray` where the chunk's bytes are no
-    /// array or its elements have one size, `BadElement` as `cadel`; else refused, and makes
+    /// zeros after them. `BadChunk` as `caadd`, `BadArray` if the chunk's bytes are no
+    /// array or its elements have one size, `BadElement` as `cadel`; otherwise refused, and makes
     /// stale, as `caadd`.
     pub fn caresize(&mut self, name: Name, chunk: u16, index: u16, len: u16) -> Result<(), Refusal>
         requires locked { IsLocked self.old.core name }

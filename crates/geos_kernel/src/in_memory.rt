@@ -18,7 +18,7 @@ const AREA: u32 = 65_536;
 
 /// A kernel without a block, in a region of `region` bytes, 65,536 to 16,777,216, on a new VM
 /// file in memory with an area of 65,536 bytes. The device is honest, and has not failed.
-/// `AllocError` where there is no memory.
+/// `AllocError` if there is no memory.
 pub fn kernel_in_memory(alloc: Global, region: u32) -> Result<Kernel<MemoryDevice>, AllocError>
     requires { (65536 ≤ region) × (region ≤ 16777216) }
     ensures store { IfOk result (λ kernel. IsEmpty kernel.core.blocks region) }

@@ -27,7 +27,7 @@ impl<D: Device + Drop> Kernel<D> {
     ghost use Rattle.geos_kernel.specs.View.{IsLocked, IsMarked};
 
     /// Makes a group of 64 bytes with no item, under the lowest handle of the file that is free, and
-    /// marks it; it is not locked. `NoHandle` where all 1,024 handles are listed, `NoRoom` where no
+    /// marks it; it is not locked. `NoHandle` if all 1,024 handles are listed, `NoRoom` if no
     /// stretch of the region has room for it, though no block is left that could be discarded.
     pub fn gnew(&mut self) -> Result<u16, Refusal>
         ensures calls { Calls (D.medium.honest self.old.device) table.gnew result self.old.core self.new.core }
@@ -38,7 +38,7 @@ impl<D: Device + Drop> Kernel<D> {
     }
 
     /// Frees a group, and its items with it; the map item is none then if it was of this group.
-    /// `BadHandle` where there is no such group, `Locked` where it is locked.
+    /// `BadHandle` if there is no such group, `Locked` if it is locked.
     pub fn gfree(&mut self, group: u16) -> Result<(), Refusal>
         ensures calls { Calls (D.medium.honest self.old.device) (table.gfree group) result self.old.core self.new.core }
         ensures device { AsksNothing self.old self.new }
@@ -48,7 +48,7 @@ impl<D: Device + Drop> Kernel<D> {
     }
 
     /// Changes the items of a group, as the value says, and marks it; it is brought into memory first.
-    /// `BadHandle` where there is no such group, `NoRoom` and `Disk` where it does not come into
+    /// `BadHandle` if there is no such group, `NoRoom` and `Disk` if it does not come into
     /// memory, as `vlock` says; then refused as `change` is, an item being a chunk of the group. Spans
     /// into the group are stale after it, also where it is refused.
     pub fn item_change(&mut self, group: u16, change: Change) -> Result<(), Refusal>
@@ -77,7 +77,7 @@ impl<D: Device + Drop> Kernel<D> {
         self.item_make(group, Make::Lalloc { n: len })
     }
 
-    /// Frees an item. `BadHandle`, `NoRoom` and `Disk` as `item_change`, `BadChunk` where the group
+    /// Frees an item. `BadHandle`, `NoRoom` and `Disk` as `item_change`, `BadChunk` if the group
     /// has no such item.
     pub fn ifree(&mut self, group: u16, item: u16) -> Result<(), Refusal>
         ensures { CallsItem D.medium (table.ifree group item) (free item) group result self.old self.new }
@@ -85,8 +85,8 @@ impl<D: Device + Drop> Kernel<D> {
         self.item_change(group, Change::Lfree { c: item })
     }
 
-    /// Gives an item `len` bytes: its first ones that fit, and zeros behind them. It is refused as
-    /// `ifree` is; then `TooBig` where the group would need more than 65,520 bytes, `NoRoom` where it
+    /// Gives an item `len` bytes: its first ones that fit, and zeros after them. It is refused as
+    /// `ifree` is; then `TooBig` if the group would need more than 65,520 bytes, `NoRoom` if it
     /// must grow and no stretch of the region has room for it.
     pub fn irealloc(&mut self, group: u16, item: u16, len: u16) -> Result<(), Refusal>
         ensures { CallsItem D.medium (table.irealloc group item len) (realloc item len) group result self.old self.new }
@@ -95,7 +95,7 @@ impl<D: Device + Drop> Kernel<D> {
     }
 
     /// Inserts `len` zero bytes at an offset of an item. It is refused as `irealloc` is, with `Range`
-    /// behind `BadChunk` where the offset is past the item's length.
+    /// after `BadChunk` if the offset is past the item's length.
     pub fn iins(&mut self, group: u16, item: u16, at: u16, len: u16) -> Result<(), Refusal>
         ensures { CallsItem D.medium (table.iins group item at len) (insert_bytes item at len) group result self.old self.new }
     {
@@ -109,8 +109,8 @@ impl<D: Device + Drop> Kernel<D> {
         )
     }
 
-    /// Deletes `len` bytes at an offset of an item. It is refused as `ifree` is, with `Range` behind
-    /// `BadChunk` where they reach past the item's length.
+    /// Deletes `len` bytes at an offset of an item. It is refused as `ifree` is, with `Range` after
+    /// `BadChunk` if they reach past the item's length.
     pub fn idel(&mut self, group: u16, item: u16, at: u16, len: u16) -> Result<(), Refusal>
         ensures { CallsItem D.medium (table.idel group item at len) (delete_bytes item at len) group result self.old self.new }
     {
@@ -124,12 +124,11 @@ impl<D: Device + Drop> Kernel<D> {
         )
     }
 
-    /// Locks a group once more, which brings it into memory, and answers where the bytes of an item
-    /// lie, which must be `least` at least. `BadHandle` where there is no such group, `Locked` where its
-    /// count is 65,535, `NoRoom` and `Disk` where it does not come into memory, as `vlock` says;
-    /// `BadChunk` where it has no such item, `Short` where that has fewer bytes. It is locked only
-    /// where none of these comes. The span stands until a call on an item of the group makes it stale, or
-    /// the last lock is given back.
+    /// Locks a group once more, which brings it into memory, and returns the span of an item's
+    /// bytes, at least `least`. `BadHandle` if there is no such group, `Locked` if its count is
+    /// 65,535, `NoRoom` and `Disk` if it does not come into memory, as `vlock` says; `BadChunk` if it
+    /// has no such item, `Short` if that has fewer bytes. A refusal does not lock the group. The span
+    /// is valid until a call on an item of the group makes it stale, or the last lock is released.
     pub fn ilock(&mut self, group: u16, item: u16, least: u16) -> Result<Span, Refusal>
         ensures gives { LeadsToSpan (D.medium.honest self.old.device) (table.ilock group item least) result self.old.core self.new.core }
         ensures stands { IfOk result (λ span. IsStanding self.new.core span × (least ≤ span.len)) }
@@ -183,7 +182,7 @@ impl<D: Device + Drop> Kernel<D> {
     }
 
     /// Names the map item: a group, and any number for an item of it; or 0 and 0 for none. `BadHandle`
-    /// where the group is neither 0 nor a group, `Range` where it is 0 and the item is not.
+    /// where the group is neither 0 nor a group, `Range` if it is 0 and the item is not.
     pub fn isetmap(&mut self, group: u16, item: u16) -> Result<(), Refusal>
         ensures calls { Calls (D.medium.honest self.old.device) (table.isetmap group item) result self.old.core self.new.core }
         ensures device { AsksNothing self.old self.new }

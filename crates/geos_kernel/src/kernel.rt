@@ -71,7 +71,7 @@ impl<D: Device + Drop> Kernel<D> {
 
     /// No block in memory, in a region of `region` bytes, 65,536 to 16,777,216, and a VM file, which
     /// may be unsure: then it takes no commit. This is the only call but commits that takes memory;
-    /// `AllocError` where there is none, and the file comes back.
+    /// `AllocError` if there is none, and the file comes back.
     pub fn new(
         alloc: Global,
         region: u32,
@@ -105,7 +105,7 @@ impl<D: Device + Drop> Kernel<D> {
         vm.into_file().into_device()
     }
 
-    /// How often a block is locked; 0 where there is none.
+    /// How often a block is locked; 0 if there is none.
     pub fn locks(&self, name: Name) -> u16
         ensures count { result ≡ store.locks_of self.now.core.blocks (slot_of name) }
         ensures model { (f : model_file.VmFile) → IsFileOf (D.medium.honest self.now.device) self.now.core f
@@ -114,8 +114,8 @@ impl<D: Device + Drop> Kernel<D> {
         self.blocks.locks(name)
     }
 
-    /// How often the blocks of the VM file are locked, all together: the sum of their counts. It is
-    /// kept, so no block is looked at.
+    /// How often the blocks of the VM file are locked, all together: the sum of their counts. The
+    /// sum is stored, so this takes constant time.
     pub fn vm_locks(&self) -> u32
         ensures sum { result ≡ vm_locks self.now.core.blocks }
         ensures laid { IsLaidOut self.now.core.blocks }
@@ -123,7 +123,7 @@ impl<D: Device + Drop> Kernel<D> {
         self.blocks.vm_locks()
     }
 
-    /// Whether a block of the VM file is marked as changed; `false` where there is none.
+    /// Whether a block of the VM file is marked as changed; `false` if there is none.
     pub fn marked(&self, handle: u16) -> bool
         ensures mark { result ≡ is_marked_in (held_at self.now.core.vm handle) }
         ensures model { (f : model_file.VmFile) → IsFileOf (D.medium.honest self.now.device) self.now.core f
@@ -141,12 +141,10 @@ impl<D: Device + Drop> Kernel<D> {
         none_locked(&self.blocks)
     }
 
-    /// What holds of the kernel's memory at all times: there is a VM file that the model may know
-    /// beside it; each block in memory, of either owner, is a heap under its handle; sizes of
-    /// blocks are legal and have room for their chunks, chunks are lists of bytes, and no block is
-    /// locked more often than it can be; each block is locked as often as the model has it, and so no block of the VM
-    /// file exactly where the model has none locked; what is seen of how often the device has failed is what it says; and in what a stop
-    /// leaves now `open` finds what the model has as kept.
+    /// The invariant of the kernel's memory: there is a VM file that the model may have beside it; each block in memory, of either owner,
+    /// is a heap under its handle; sizes of blocks are legal and have room for their chunks, chunks are lists of bytes, and no lock count is
+    /// above its limit; each lock count is the model's, so no block of the VM file is locked exactly if the model has none locked; the count
+    /// of failures is the device's; and after a stop now, `open` finds what the model has committed.
     pub fn memory_is_legal(&self)
         ensures file { (f : model_file.VmFile) × IsFileOf (D.medium.honest self.now.device) self.now.core f }
         ensures legal { (f : model_file.VmFile) → IsFileOf (D.medium.honest self.now.device) self.now.core f → IsMemory (memory_of self.now.core f) }
@@ -166,7 +164,7 @@ impl<D: Device + Drop> Kernel<D> {
     }
 
     /// Makes a block of 64 bytes with no chunk, under the lowest handle that is free, and
-    /// locks it. `NoHandle` where all 1,024 are in use, `NoRoom` where no stretch of the
+    /// locks it. `NoHandle` if all 1,024 are in use, `NoRoom` if no stretch of the
     /// region has room for it, though no block is left that could be discarded.
     pub fn mnew(&mut self) -> Result<u16, Refusal>
         ensures calls { Calls (D.medium.honest self.old.device) table.mnew result self.old.core self.new.core }
@@ -183,7 +181,7 @@ impl<D: Device + Drop> Kernel<D> {
         }
     }
 
-    /// Locks a block of global memory once more. `BadHandle` where there is none, `Locked` where
+    /// Locks a block of global memory once more. `BadHandle` if there is none, `Locked` if
     /// its count is 65,535.
     pub fn mlock(&mut self, handle: u16) -> Result<(), Refusal>
         ensures calls { Calls (D.medium.honest self.old.device) (table.mlock handle) result self.old.core self.new.core }
@@ -204,7 +202,7 @@ impl<D: Device + Drop> Kernel<D> {
         self.blocks.unlock(name);
     }
 
-    /// Frees a block of global memory. `BadHandle` where there is none, `Locked` where it is locked.
+    /// Frees a block of global memory. `BadHandle` if there is none, `Locked` if it is locked.
     pub fn mfree(&mut self, handle: u16) -> Result<(), Refusal>
         ensures calls { Calls (D.medium.honest self.old.device) (table.mfree handle) result self.old.core self.new.core }
         ensures vm { LeavesVm self.old self.new }
@@ -215,8 +213,8 @@ impl<D: Device + Drop> Kernel<D> {
     }
 
     /// Changes the chunks of a locked block, as the value says; one of the VM file is marked.
-    /// `BadChunk`, `BadArray`, `BadElement` and `Range` as the named calls say; `TooBig` where the
-    /// block would need more than 65,520 bytes, `NoRoom` where it must grow and no stretch of the
+    /// `BadChunk`, `BadArray`, `BadElement` and `Range` as the named calls say; `TooBig` if the
+    /// block would need more than 65,520 bytes, `NoRoom` if it must grow and no stretch of the
     /// region has room for it, though no other block is left that could be discarded. Spans into the
     /// block are stale after it, also where it is refused. After `Lcontract` its free bytes are in one
     /// piece, at its end.
@@ -251,8 +249,8 @@ impl<D: Device + Drop> Kernel<D> {
         chunk_calls::make_chunk(&self.vm, &mut self.blocks, name, make)
     }
 
-    /// Tells a number of the chunks of a locked block, as the value says. `BadChunk` where no
-    /// chunk of the block has this handle, `BadArray` where its bytes are no array.
+    /// Tells a number of the chunks of a locked block, as the value says. `BadChunk` if no
+    /// chunk of the block has this handle, `BadArray` if its bytes are no array.
     pub fn ask(&self, name: Name, ask: Ask) -> Result<u16, Refusal>
         requires { IsLocked self.now.core name }
         ensures { Calls (D.medium.honest self.now.device) (ask_row name ask) result self.now.core self.now.core }
@@ -260,8 +258,8 @@ impl<D: Device + Drop> Kernel<D> {
         tell(self.blocks.bytes(name), ask)
     }
 
-    /// Where the bytes lie that the value names, in a chunk of a locked block. `BadChunk`,
-    /// `BadArray`, `BadElement` and `Short` as `deref` and `caelt` say. The span stands until a
+    /// The span of the bytes that the value names, in a chunk of a locked block. `BadChunk`,
+    /// `BadArray`, `BadElement` and `Short` as in `deref` and `caelt`. The span is valid until a
     /// call makes the chunk's references stale.
     #[inline(always)]
     pub fn refer(&self, name: Name, refer: Refer) -> Result<Span, Refusal>
@@ -291,7 +289,7 @@ impl<D: Device + Drop> Kernel<D> {
         ensures remain { Remain self.old.core.blocks self.new.core.blocks 0 }
     {
         chunk_calls::contract(&mut self.blocks, name);
-        // what lies in the region are bytes, as the block is to spell
+        // what lies in the region are bytes, as the block is to encode
         let _ = self.blocks.region();
     }
 }

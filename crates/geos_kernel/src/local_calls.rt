@@ -17,8 +17,8 @@ impl<D: Device + Drop> Kernel<D> {
     ghost use Rattle.geos_kernel.specs.View.{chunks_at, IsLocked, MayChange};
 
     /// Makes a chunk of `len` zero bytes in a locked block, and answers its handle: the lowest
-    /// one of the block that is free. `TooBig` where the block would need more than 65,520
-    /// bytes, `NoRoom` where it must grow and no stretch of the region has room for it. Spans
+    /// one of the block that is free. `TooBig` if the block would need more than 65,520
+    /// bytes, `NoRoom` if it must grow and no stretch of the region has room for it. Spans
     /// into the block are stale after it, also where it is refused.
     pub fn lalloc(&mut self, name: Name, len: u16) -> Result<u16, Refusal>
         requires locked { IsLocked self.old.core name }
@@ -31,7 +31,7 @@ impl<D: Device + Drop> Kernel<D> {
         self.make_chunk(name, Make::Lalloc { n: len })
     }
 
-    /// Frees a chunk of a locked block. `BadChunk` where no chunk of the block has this
+    /// Frees a chunk of a locked block. `BadChunk` if no chunk of the block has this
     /// handle. Spans into the block are stale after it, also where it is refused.
     pub fn lfree(&mut self, name: Name, chunk: u16) -> Result<(), Refusal>
         requires locked { IsLocked self.old.core name }
@@ -44,8 +44,8 @@ impl<D: Device + Drop> Kernel<D> {
         self.change(name, Change::Lfree { c: chunk })
     }
 
-    /// Gives a chunk of a locked block `len` bytes: its first ones that fit, and zeros behind
-    /// them. `BadChunk` where no chunk of the block has this handle; else refused as `lalloc`
+    /// Gives a chunk of a locked block `len` bytes: its first ones that fit, and zeros after
+    /// them. `BadChunk` if no chunk of the block has this handle; otherwise refused as `lalloc`
     /// is, and makes stale what `lalloc` does.
     pub fn lrealloc(&mut self, name: Name, chunk: u16, len: u16) -> Result<(), Refusal>
         requires locked { IsLocked self.old.core name }
@@ -58,8 +58,8 @@ impl<D: Device + Drop> Kernel<D> {
         self.change(name, Change::Lrealloc { c: chunk, n: len })
     }
 
-    /// Inserts `len` zero bytes at an offset of a chunk of a locked block. `BadChunk` where no
-    /// chunk of the block has this handle, `Range` where the offset is past its length; else
+    /// Inserts `len` zero bytes at an offset of a chunk of a locked block. `BadChunk` if no
+    /// chunk of the block has this handle, `Range` if the offset is past its length; otherwise
     /// refused as `lalloc` is, and makes stale what `lalloc` does.
     pub fn lins(&mut self, name: Name, chunk: u16, at: u16, len: u16) -> Result<(), Refusal>
         requires locked { IsLocked self.old.core name }
@@ -79,8 +79,8 @@ impl<D: Device + Drop> Kernel<D> {
         )
     }
 
-    /// Deletes `len` bytes at an offset of a chunk of a locked block. `BadChunk` where no chunk
-    /// of the block has this handle, `Range` where they reach past its length. Makes stale
+    /// Deletes `len` bytes at an offset of a chunk of a locked block. `BadChunk` if no chunk
+    /// of the block has this handle, `Range` if they reach past its length. Makes stale
     /// what `lalloc` does.
     pub fn ldel(&mut self, name: Name, chunk: u16, at: u16, len: u16) -> Result<(), Refusal>
         requires locked { IsLocked self.old.core name }
@@ -100,7 +100,7 @@ impl<D: Device + Drop> Kernel<D> {
         )
     }
 
-    /// The length of a chunk in bytes. `BadChunk` where no chunk of the block has this handle.
+    /// The length of a chunk in bytes. `BadChunk` if no chunk of the block has this handle.
     pub fn lsize(&self, name: Name, chunk: u16) -> Result<u16, Refusal>
         requires { IsLocked self.now.core name }
         ensures { Calls (D.medium.honest self.now.device) (table.lsize name chunk) result self.now.core self.now.core }
@@ -108,9 +108,9 @@ impl<D: Device + Drop> Kernel<D> {
         self.ask(name, Ask::Lsize { c: chunk })
     }
 
-    /// Where a chunk's bytes lie, which must be `least` at least. `BadChunk` where no chunk of the
-    /// block has this handle, `Short` where it has fewer bytes. The span stands until a call
-    /// makes the chunk's references stale.
+    /// The span of a chunk's bytes, at least `least`. `BadChunk` if no chunk of the block has this
+    /// handle, `Short` if it has fewer bytes. The span is valid until a call makes the chunk's
+    /// references stale.
     pub fn deref(&self, name: Name, chunk: u16, least: u16) -> Result<Span, Refusal>
         requires { IsLocked self.now.core name }
         ensures gives { GivesSpan (D.medium.honest self.now.device) (table.deref name chunk least) result self.now.core }

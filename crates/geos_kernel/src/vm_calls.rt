@@ -28,15 +28,15 @@ impl<D: Device + Drop> Kernel<D> {
         // What `open` would find after a stop now.
         ensures stop { D.medium.honest self.now.device → (c : List ℕ) → D.medium.may_leave self.now.device c
             → Finds D.medium.image (vm_file_of self.now) c }
-        // That is what the model has as kept.
+        // That is what the model has committed.
         ensures kept { LeavesKept D.medium self.now }
     {
         self.vm.is_sure()
     }
 
     /// Makes a block of the file of 64 bytes with no chunk, under the lowest handle that is free,
-    /// with this user ID, marks it and locks it. `Reserved` where the user ID is that of groups,
-    /// `NoHandle` where all 1,024 handles are listed, `NoRoom` where no stretch of the region has
+    /// with this user ID, marks it and locks it. `Reserved` if the user ID is that of groups,
+    /// `NoHandle` if all 1,024 handles are listed, `NoRoom` if no stretch of the region has
     /// room for it, though no block is left that could be discarded.
     pub fn vnew(&mut self, uid: u16) -> Result<u16, Refusal>
         ensures calls { Calls (D.medium.honest self.old.device) (table.vnew uid) result self.old.core self.new.core }
@@ -53,14 +53,14 @@ impl<D: Device + Drop> Kernel<D> {
         of_new(made)
     }
 
-    /// Locks a block of the file once more, which brings it into memory. `BadHandle` where there is
-    /// none, `Reserved` where it is a group, `Locked` where its count is 65,535, `NoRoom` where no
+    /// Locks a block of the file once more, which brings it into memory. `BadHandle` if there is
+    /// none, `Reserved` if it is a group, `Locked` if its count is 65,535, `NoRoom` if no
     /// stretch of the region has room for it, though no other block is left that could be discarded,
-    /// `Disk` where the device fails, or gives bytes that are no heap under the handle.
+    /// `Disk` if the device fails, or gives bytes that are no heap under the handle.
     pub fn vlock(&mut self, handle: u16) -> Result<(), Refusal>
         ensures calls { Calls (D.medium.honest self.old.device) (table.vlock handle) result self.old.core self.new.core }
         ensures no_room { result ≡ Err Refusal.NoRoom → ListedHasNoRoom self.new.core handle }
-        // A block that is in memory is locked without the device; a refusal but for room or the device changes nothing.
+        // A block in memory is locked without the device. A refusal changes nothing, except `NoRoom` and `Disk`.
         ensures in_memory { InMemory handle result self.old self.new }
         ensures locks { IsThere self.old.core.blocks (vm_slot handle)
             → OnOk result (self.new.core.blocks ≡ with_lock_more self.old.core.blocks (vm_slot handle)) }
@@ -99,8 +99,8 @@ impl<D: Device + Drop> Kernel<D> {
         self.munlock(name);
     }
 
-    /// Frees a block of the file: it is mapped no more. `BadHandle` where there is none, `Reserved`
-    /// where it is a group, `Locked` where it is locked.
+    /// Frees a block of the file: it is mapped no more. `BadHandle` if there is none, `Reserved`
+    /// where it is a group, `Locked` if it is locked.
     pub fn vfree(&mut self, handle: u16) -> Result<(), Refusal>
         ensures calls { Calls (D.medium.honest self.old.device) (table.vfree handle) result self.old.core self.new.core }
         ensures device { AsksNothing self.old self.new }
@@ -113,8 +113,8 @@ impl<D: Device + Drop> Kernel<D> {
         of_free(freed)
     }
 
-    /// The lowest handle above `start` of a block of the file with this user ID; 0 where there is
-    /// none. `Reserved` where the user ID is that of groups.
+    /// The lowest handle above `start` of a block of the file with this user ID; 0 if there is
+    /// none. `Reserved` if the user ID is that of groups.
     pub fn vfind(&self, start: u16, uid: u16) -> Result<u16, Refusal>
         ensures { Calls (D.medium.honest self.now.device) (table.vfind start uid) result self.now.core self.now.core }
     {
@@ -126,7 +126,7 @@ impl<D: Device + Drop> Kernel<D> {
         Ok(self.vm.find(start, uid))
     }
 
-    /// The user ID of a block or group. `BadHandle` where there is none.
+    /// The user ID of a block or group. `BadHandle` if there is none.
     pub fn vuid(&self, handle: u16) -> Result<u16, Refusal>
         ensures { Calls (D.medium.honest self.now.device) (table.vuid handle) result self.now.core self.now.core }
     {
@@ -140,7 +140,7 @@ impl<D: Device + Drop> Kernel<D> {
         self.vm.map()
     }
 
-    /// Names the map block; 0 is for none. `BadHandle` where there is no such block, `Reserved` where
+    /// Names the map block; 0 is for none. `BadHandle` if there is no such block, `Reserved` if
     /// it is a group.
     pub fn vsetmap(&mut self, handle: u16) -> Result<(), Refusal>
         ensures calls { Calls (D.medium.honest self.old.device) (table.vsetmap handle) result self.old.core self.new.core }
@@ -158,8 +158,8 @@ impl<D: Device + Drop> Kernel<D> {
     }
 
     /// Keeps the current directory beside the saved one: no block of the file is marked any more.
-    /// `Unsure` where the file is unsure of what its device holds, `TooBig` where both need more than
-    /// the area, `Memory` where an allocation is refused, `Disk` where the device fails, or gives
+    /// `Unsure` if the file is unsure of what its device holds, `TooBig` if both need more than
+    /// the area, `Memory` if an allocation is refused, `Disk` if the device fails, or gives
     /// bytes that are no heap under their handle. A refusal leaves blocks and marks as they were; the
     /// file may be unsure after `Disk`.
     pub fn vupdate(&mut self) -> Result<(), Refusal>
@@ -196,7 +196,7 @@ impl<D: Device + Drop> Kernel<D> {
         ensures calls { Calls (D.medium.honest self.old.device) (table.commit (keeper_of how)) result self.old.core self.new.core }
         ensures commits { Commits D.medium how self.old self.new result }
     {
-        // what `open` finds is what the model has as kept, before it and after it
+        // `open` finds what the model has committed, before the call and after it
         self.vm.is_sure();
         let done = self.vm.commit(&mut self.blocks, how);
         self.vm.is_sure();

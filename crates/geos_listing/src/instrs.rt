@@ -9,7 +9,7 @@ use geos_opcodes::{FIELDS, Operand, operand_at};
 use geos_text::put_numbered;
 use std::alloc::AllocError;
 
-/// An operand, and a blank in front of it; nothing for a field that is unused.
+/// An operand, and a blank before it; nothing for a field that is unused.
 fn put_operand(
     out: &mut Vec<u8>,
     image: &Image,

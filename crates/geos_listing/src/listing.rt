@@ -33,7 +33,7 @@ pub fn put_label_line(
     out.extend_from_slice(b":\n")
 }
 
-/// The instruction at a pc, behind its label where another leads to it.
+/// The instruction at a pc, after its label where another leads to it.
 fn put_place(out: &mut Vec<u8>, image: &Image, targets: &Targets, pc: u16) -> Result<(), AllocError>
     requires within { pc < length image.now.points }
     requires legal { is_image image.now ≡ true }

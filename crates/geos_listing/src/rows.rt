@@ -128,7 +128,7 @@ fn put_pairs(out: &mut Vec<u8>, pairs: &[bool; 6]) -> Result<(), AllocError>
     Ok(())
 }
 
-/// Appends the items in which the row differs from the open row, a blank in front of each.
+/// Appends the items in which the row differs from the open row, a blank before each.
 #[tactic(auto, unfolding(crate::specs::Rows::row_items))]
 pub fn put_items(out: &mut Vec<u8>, row: &Row) -> Result<(), AllocError>
     ensures value { OnOk result (out.new.items ≡ out.old.items ++ row_items row.now) }

@@ -6,7 +6,7 @@ ghost use Rattle.geos_opcodes.specs.Facts as table;
 use crate::opcode::{Opcode, Operand, Operands};
 use crate::uses::{Kind, Offset, PointerUse, SlotUse, Uses, Width};
 
-/// Where an instruction leaves a word, and what is known of it.
+/// The register in which an instruction leaves a word, and what is known of the word.
 #[derive(Clone, Copy, Debug, PartialEq, Eq)]
 pub enum Yields {
     /// Nowhere.
@@ -28,7 +28,7 @@ pub enum Yields {
 pub enum Flow {
     /// On, and where the target is a label, there too.
     Along,
-    /// To the target alone.
+    /// Only to the target.
     Jumps,
     /// To a routine, and then on.
     Calls,
@@ -52,7 +52,7 @@ pub enum CounterUse {
 /// What there is to know of an opcode.
 #[derive(Clone, Copy, Debug, PartialEq, Eq)]
 pub struct Facts {
-    /// The byte that spells it.
+    /// The byte that encodes it.
     pub code: u8,
     pub operands: Operands,
     pub uses: Uses,
@@ -61,7 +61,7 @@ pub struct Facts {
     pub counter: CounterUse,
 }
 
-/// Uses of a slot alone.
+/// Uses of only a slot.
 fn slot_uses(slot: SlotUse) -> Uses
     ensures { result ≡ table.slot_uses slot }
 {
@@ -71,7 +71,7 @@ fn slot_uses(slot: SlotUse) -> Uses
     }
 }
 
-/// Uses of pointers alone.
+/// Uses of only pointers.
 fn pointer_uses(pointer: PointerUse) -> Uses
     ensures { result ≡ table.pointer_uses pointer }
 {
@@ -81,7 +81,7 @@ fn pointer_uses(pointer: PointerUse) -> Uses
     }
 }
 
-/// An instruction that goes on, and is never refused.
+/// An instruction that continues, and is never refused.
 fn plain(code: u8, a: Operand, b: Operand, c: Operand, imm: Operand) -> Facts
     ensures { result ≡ table.plain code a b c imm }
 {

@@ -1,4 +1,4 @@
-//! The operands of an instruction in a text. Behind the word of its opcode stand the operands of
+//! The operands of an instruction in a text. After the word of its opcode come the operands of
 //! the fields a, b, c, d, imm and target, in this order, without those of unused fields.
 
 ghost use Rattle.std.specs.Prelude.{◌≡◌};

@@ -1,4 +1,4 @@
-//! What spells an opcode: its byte in an image, and its word in a text.
+//! What encodes an opcode: its byte in an image, and its word in a text.
 
 ghost use Rattle.std.specs.Prelude.{◌≡◌, IfSome, Some, slice_get};
 ghost use Rattle.geos_opcodes.specs.Facts as table;
@@ -94,7 +94,7 @@ fn opcode_at(list: &[Opcode], place: usize) -> Option<Opcode>
 }
 
 impl Opcode {
-    /// The byte that spells the opcode. No two opcodes have one byte.
+    /// The byte that encodes the opcode. No two opcodes have one byte.
     #[tactic(auto, using(crate::proofs::Laws::opcode_again))]
     pub fn code(self) -> u8
         ensures value { result ≡ table.code_of self }
@@ -197,7 +197,7 @@ impl Opcode {
         }
     }
 
-    /// The opcode that the byte spells, if one does.
+    /// The opcode that the byte encodes, if one does.
     #[tactic(auto, using(crate::proofs::Laws::opcode_placed))]
     pub fn from_code(code: u8) -> Option<Opcode>
         ensures { result ≡ table.opcode_of code }
@@ -209,7 +209,7 @@ impl Opcode {
         }
     }
 
-    /// The opcode whose word it is; `None` where it is no opcode's.
+    /// The opcode whose word it is; `None` if it is no opcode's.
     pub fn from_word(word: &[u8]) -> Option<Opcode>
         ensures value { result ≡ table.opcode_of_word word.now }
         ensures some { IfSome result (λ opcode. table.word_of opcode ≡ word.now) }

@@ -39,7 +39,7 @@ pub(crate) fn asked_over(
     }
 }
 
-/// The coefficients that an edge asks; none where there is no edge.
+/// The coefficients that an edge asks; none if there is no edge.
 fn asked_coefficients(asked: &Option<Asked>) -> [u32; 4]
     ensures { result ≡ asked_coefficients asked.now }
 {
@@ -81,7 +81,7 @@ pub(crate) fn coefficients_join(p: &[u32; 4], q: &[u32; 4]) -> [u32; 4]
     ]
 }
 
-/// What a return asks for.
+/// The steps that a return requires.
 pub(crate) fn return_steps(i: &Instr) -> u64
     ensures { result ≡ return_steps i.now }
 {
@@ -97,7 +97,7 @@ fn larger64(a: u64, b: u64) -> u64
     a.max(b)
 }
 
-/// The least potential that pays for what the instruction at a pc asks; `None` where its constant is
+/// The least potential that pays for what the instruction at a pc asks; `None` if its constant is
 /// past what a potential can say.
 pub(crate) fn potential_at(
     body: &Body,

@@ -1,4 +1,4 @@
-//! Which LOOPs are to pay for ways round among the places of a component.
+//! Chooses the LOOPs that pay for the cycles of a component.
 
 ghost use Rattle.std.specs.Prelude.{◌<◌, ◌==◌, true, false, not, min, None, Some};
 ghost use Rattle.geos_potentials.specs.declared.choice.Tier.TheVariants.{Clean, Tight, Unset};
@@ -9,9 +9,9 @@ use control_graph::{Graph, Jumps, Order, Piece, lead_within};
 /// Which LOOPs may pay, beside that no call has touched their counter.
 #[derive(Clone, Copy)]
 pub(crate) enum Tier {
-    /// The counter is set on each way there, and not in the component.
+    /// The counter is set on each path to the LOOP, and not in the component.
     Clean,
-    /// It is set on each way there.
+    /// The counter is set on each path to the LOOP.
     Tight,
     /// It is not set in the component: what it is where the routine begins is not known.
     Unset,
@@ -140,7 +140,7 @@ fn prices(
     prices
 }
 
-/// How much the edge of a place to the next instruction sets a counter to, if it stays in a component; else 0.
+/// The number that the edge to the next instruction sets a counter to, if the edge stays in a component; otherwise 0.
 fn set_at(graph: &Graph, order: &Order, piece: &Piece, counter: u8, pc: u16) -> u16
     requires { pc < 4096 }
 {
@@ -220,7 +220,7 @@ fn set_prices(
     ]
 }
 
-/// The LOOPs that are to pay in a component; none where none may. Clean ones come first, and then those of a counter that is set in it; those
+/// The LOOPs that are to pay in a component; none if none may. Clean ones come first, and then those of a counter that is set in it; those
 /// of one that may not be set before it are chosen only where no others may pay.
 pub(crate) fn choose(
     graph: &Graph,

@@ -1,4 +1,4 @@
-//! Where the unit of a counter may not be wanted, and what it costs.
+//! Where a counter may not have a coefficient, and what a unit of the coefficient costs.
 
 ghost use Rattle.std.specs.Prelude.{◌≡◌, ◌≤◌, ◌<◌, ◌==◌, ◌&&◌, ℕ, true, false, not, slice_index, slice_index_or};
 ghost use Rattle.geos_potentials.specs.Arcs.{unit_at};
@@ -22,7 +22,7 @@ pub(crate) struct Classes {
     touched: Spread,
     /// 1 where it comes with the counter as it was where the routine begins.
     unset: Spread,
-    /// The greatest number that the counter is set to from where it comes with it; 0 where there is none.
+    /// The greatest number that the counter is set to from where it comes with it; 0 if there is none.
     prices: Spread,
     /// 1 where it comes with the counter as it was set among the places that were looked at last.
     set_within: Spread,
@@ -68,7 +68,7 @@ fn note_unset(body: &Body, graph: &Graph, unset: &mut Spread, waits: &mut Pile)
     ensures { ComeFrom graph.now.arcs body.now.start unset.new }
 {
     unset.fill_from(body.start, [0; 4]);
-    // For what its law says.
+    // Recalls the lemma.
     unset.lengths();
     raise(unset, waits, body.start, &[1; 4]);
     go_on(graph, body.start, unset, waits);
@@ -79,7 +79,7 @@ fn note_touched(body: &Body, graph: &Graph, touched: &mut Spread, waits: &mut Pi
     ensures { ComeBehind graph.now.arcs body.now.start (IsPcOf body.now.image.now body.now.r) ForgetsIt touched.new }
 {
     touched.fill_from(body.start, [0; 4]);
-    // For what its law says.
+    // Recalls the lemma.
     touched.lengths();
     for pc in body.start..body.end {
         if let Some(arc) = graph.arc(pc, false) {

@@ -27,7 +27,7 @@ fn is_left_out(splitting: &Splitting, pc: u16, branch: bool) -> bool
     branch && matches!(splitting.jumps.at(pc), Jump::Free)
 }
 
-/// The edge of a place that is looked at: all but those of LOOPs that are left out.
+/// The edge of an instruction in the search: all edges except those of LOOPs that are left out.
 fn link_at(
     graph: &Graph,
     splitting: &Splitting,
@@ -163,8 +163,8 @@ fn free_at(graph: &Graph, splitting: &Splitting, units: &mut Units, pc: u16) -> 
     }
 }
 
-/// The same for each LOOP of a routine whose counter is 0. With these units edges that are looked at ask no more: units have only grown, and
-/// not at LOOPs that are looked at.
+/// The same for each LOOP of a routine whose counter is 0. With these units no edge of the search requires more: units have only grown, and
+/// not at LOOPs of the search.
 pub(crate) fn free_loops(
     body: &Body,
     graph: &Graph,
@@ -183,12 +183,12 @@ pub(crate) fn free_loops(
     Ok(())
 }
 
-/// The potentials of a routine are what was found; `false` where a constant is past what a potential can say.
+/// The potentials of a routine are what was found; `false` if a constant is past what a potential can say.
 pub(crate) fn put_potentials(body: &Body, units: &Units, potentials: &mut Potentials) -> bool
     ensures put { result ≡ true → ArePut body.now.image.now body.now.r units.now.pay units.now.lengths.ways (numbers_of potentials.new) }
     ensures stays { StaysFrom (start_of body.now.image.now.routines (body.now.r + 1)) (numbers_of potentials.old) (numbers_of potentials.new) }
 {
-    // For what its law says.
+    // Recalls the lemma.
     potentials.lengths();
     for pc in body.start..body.end {
         let length = units.lengths.steps(pc);

@@ -23,13 +23,13 @@ use geos_verify::Touched;
 use pc_tables::{Table, two_tables};
 use std::alloc::{AllocError, Global};
 
-/// Steps of a routine are counted from its last instruction to its first; `None` where a number is
+/// Steps of a routine are counted from its last instruction to its first; `None` if a number is
 /// past what a potential can say.
 fn sweep(body: &Body, known: &Known, potentials: &mut Potentials) -> Option<()>
     ensures counts { CountsOn body.now.image.now body.now.r (numbers_of potentials.old) (numbers_of potentials.new) (is_some result) }
     ensures stays { StaysFrom (start_of body.now.image.now.routines (body.now.r + 1)) (numbers_of potentials.old) (numbers_of potentials.new) }
 {
-    // For what its law says.
+    // Recalls the lemma.
     potentials.lengths();
     for pc in (body.start..body.end).rev() {
         let next = potential_at(body, known, potentials, pc)?;
@@ -74,7 +74,7 @@ impl Tables {
         })
     }
 
-    /// The search alone, as far as it has come.
+    /// Only the search, in its present state.
     fn into_search(self) -> Search
         ensures { result ≡ self.search }
     {
@@ -211,11 +211,11 @@ fn count_each(
     Ok(())
 }
 
-/// Finds how many steps are left at most at each instruction of so many routines, and what units of counters pay for, with the rows that
-/// are known. A routine is answered for which none are found, if there is one, and why: where it has no loops, no numbers of steps hold in it.
-/// Else the potentials of each routine with loops pay for its edges and returns, each constant is at most any that does with these rows
-/// and coefficients, and each coefficient is wanted for a LOOP. Where none of them has loops, and some numbers of steps hold in all,
-/// those that are found do, and are at most any that do.
+/// Finds potentials for the first `count` routines: at each instruction an upper bound of the remaining steps, with a coefficient for each
+/// counter, from the known rows. If a routine has none, returns that routine and the reason: if it has no loops, no numbers of steps hold
+/// in it. Otherwise the potentials of each routine with loops pay for its edges and returns, each constant is the least that does with these
+/// rows and coefficients, and each coefficient is required by a LOOP. If no routine has loops, and some numbers of steps hold in all, those
+/// found hold and are the least.
 pub fn find_potentials(
     alloc: Global,
     image: &Image,

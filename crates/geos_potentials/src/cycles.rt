@@ -36,7 +36,7 @@ fn count_edges(body: &Body, into: &mut Table<WaysIn>) {
     }
 }
 
-/// Puts a pc behind those that are listed; how many are listed then.
+/// Appends a pc to the list. Returns the new length.
 fn list(listed: &mut Table<u16>, count: u16, pc: u16) -> u16 {
     if MOST_INSTRS <= count {
         return count;
@@ -101,7 +101,7 @@ pub(crate) fn has_unpaid_cycle(
             count = list(listed, count, pc);
         }
     }
-    // Places that are on no cycle and behind none are listed one after another.
+    // Instructions that are on no cycle and after none are listed one after another.
     for at in 0..body.end - body.start {
         if count <= at {
             return true;

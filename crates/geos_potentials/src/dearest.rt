@@ -5,7 +5,7 @@ ghost use Rattle.std.specs.Prelude.{◌<◌, IfSome};
 use crate::search::Search;
 use geos_code::Body;
 
-/// What it costs that the instruction at a pc sets a counter; 0 where it sets none, or to 0.
+/// What it costs that the instruction at a pc sets a counter; 0 if it sets none, or to 0.
 fn price_at(search: &Search, pc: u16) -> u64
     requires { pc < 4096 }
 {

@@ -1,4 +1,4 @@
-//! Where LOOPs may not pay: there the counter is as it was where the routine begins, or as a call left it.
+//! Where LOOPs may not pay: the counter there is that of the routine's start, or what a call left.
 
 ghost use Rattle.std.specs.Prelude.{◌≡◌, ◌<◌, ◌≤◌, ℕ, true, Some, IfSome};
 ghost use Rattle.geos_counters.specs.Touching.{KnowsTouched, NotesTouched, NotesAllTouched};
@@ -39,7 +39,7 @@ fn may_touch(possible: &Touched, counter: u8, i: &Instr) -> bool
     }
 }
 
-/// Where an edge of the instruction leads, if it has it and it stays in the routine.
+/// The target of an edge, if the instruction has the edge and it stays in the routine.
 fn lead(body: &Body, pc: u16, branch: bool) -> Option<u16>
     requires { pc < body.now.end }
     ensures leads { IfSome result (LeadsTo body.now.image.now pc branch) }
@@ -78,7 +78,7 @@ fn goes_on(
     }
 }
 
-/// Whether it is noted behind a call that touches a counter that this may not pay.
+/// Whether a note after a call that touches a counter says that the counter may not pay.
 fn is_noted_behind(
     body: &Body,
     touching: &Touching,
@@ -148,8 +148,8 @@ pub(crate) fn are_noted(body: &Body, touching: &Touching, classes: &Classes) -> 
     true
 }
 
-/// Where an edge of the instruction leads, if it has it, it stays in the routine, and it is no LOOP's way to its target on which the counter
-/// may pay, by what is noted.
+/// The target of an edge, if the instruction has the edge, it stays in the routine, and it is not the taken edge of a LOOP whose counter may
+/// pay according to the notes.
 pub(crate) fn lead_idle(body: &Body, classes: &Classes, pc: u16, branch: bool) -> Option<u16>
     requires above { body.now.start ≤ pc }
     requires below { pc < body.now.end }

@@ -49,7 +49,7 @@ fn come_along(
     }
 }
 
-/// Control goes on within a nest from the places that wait, of those from a lowest one on.
+/// Propagates within a nest from the worklist, whose instructions begin at a lowest pc.
 fn come_on(
     graph: &Graph,
     splitting: &Splitting,

@@ -17,7 +17,7 @@ pub(crate) enum Share {
     Costs(u16),
 }
 
-/// An edge that is looked at.
+/// An edge of the search.
 #[derive(Clone, Copy)]
 pub(crate) struct Link {
     pub(crate) to: u16,
@@ -47,7 +47,7 @@ impl Way {
     };
 }
 
-/// The edges that are looked at, and the longest ways along them.
+/// The edges of the search, and the longest paths along them.
 #[derive(Drop)]
 pub(crate) struct Lengths {
     links: Table<[Option<Link>; 2]>,
@@ -60,7 +60,7 @@ impl Lengths {
     ghost use Rattle.std.specs.Prelude.{◌≡◌, ◌<◌, ◌≤◌, ℕ, Bool, None, Some, true, false, length, slice_set, IfSome};
     ghost use Rattle.geos_potentials.specs.Least.{steps_at, link_at, PaysLink, AtMost, StayAtMost};
 
-    /// No edge is looked at, and no way is known.
+    /// No edges and no paths.
     pub(crate) fn new(alloc: Global) -> Result<Lengths, AllocError> {
         let (links, ways) = two_tables(alloc, [None, None], Way::NOTHING)?;
         Ok(Lengths {
@@ -70,17 +70,17 @@ impl Lengths {
         })
     }
 
-    /// No edge is looked at.
+    /// Removes all edges.
     pub(crate) fn clear_links(&mut self)
         ensures links { (pc : ℕ) (branch : Bool) → link_at self.new.links pc branch ≡ None }
         ensures ways { self.new.ways ≡ self.old.ways }
     {
         self.links.fill_from(0, [None, None]);
-        // For what its law says.
+        // Recalls the lemma.
         self.links.lengths();
     }
 
-    /// The edge of a place that is looked at, to its target where `branch` says so.
+    /// The edge of an instruction in the search: to its target if `branch`, otherwise to the next instruction.
     pub(crate) fn link(&self, pc: u16, branch: bool) -> Option<Link>
         requires { pc < 4096 }
         ensures { result ≡ link_at self.now.links pc branch }
@@ -89,14 +89,14 @@ impl Lengths {
         if branch { *branching } else { *along }
     }
 
-    /// The edges from a place that are looked at.
+    /// Sets the edges of an instruction in the search.
     pub(crate) fn set_links(&mut self, pc: u16, links: [Option<Link>; 2])
         requires { pc < 4096 }
         ensures links { self.new.links ≡ slice_set self.old.links pc links }
         ensures room { pc < length self.old.links }
         ensures ways { self.new.ways ≡ self.old.ways }
     {
-        // For what its law says.
+        // Recalls the lemma.
         self.links.lengths();
         self.links.set(pc, links);
     }
@@ -116,7 +116,7 @@ impl Lengths {
         ensures ways { self.new.ways ≡ slice_set self.old.ways pc (record { steps = steps; first = None; passed = 0 }) }
         ensures room { pc < length self.old.ways }
     {
-        // For what its law says.
+        // Recalls the lemma.
         self.ways.lengths();
         let way = Way {
             steps,
@@ -149,7 +149,7 @@ impl Lengths {
         self.link(pc, branch)
     }
 
-    /// How many steps a way takes that begins with an edge; 0 where there is none.
+    /// How many steps a way takes that begins with an edge; 0 if there is none.
     #[inline(always)]
     fn over(&self, link: &Option<Link>) -> u64
         ensures below { (want : ℕ → ℕ) (pc : ℕ) → AtMost self.now.ways want → PaysLink want pc link.now → result ≤ want pc }
@@ -179,7 +179,7 @@ impl Lengths {
         if by_along.max(by_branching) <= steps {
             return false;
         }
-        // For what its law says.
+        // Recalls the lemma.
         self.ways.lengths();
         let way = Way {
             steps: by_along.max(by_branching),
@@ -216,8 +216,8 @@ impl Lengths {
         false
     }
 
-    /// The same from each place of a piece in their order; if none grows, at each pc from its begin on up to its end, so that all of
-    /// these are looked at whatever the order is.
+    /// The same from each instruction of a piece in their order. If none grows, also at each pc from its begin to its end, so that all edges
+    /// are tested whatever the order is.
     pub(crate) fn sweep_all(&mut self, order: &Order, piece: &Piece) -> bool
         ensures links { self.new.links ≡ self.old.links }
         ensures below { StayAtMost self.old.links self.old.ways self.new.ways }
@@ -256,7 +256,7 @@ impl Lengths {
         None
     }
 
-    /// A place of a piece from which the way comes back to it.
+    /// An instruction of a piece from which the longest path leads back to it.
     pub(crate) fn find_round(&mut self, order: &Order, piece: &Piece) -> Option<u16>
         ensures { IfSome result (λ pc. pc < 4096) }
     {

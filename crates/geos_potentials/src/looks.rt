@@ -1,4 +1,4 @@
-//! How much was looked at: it is counted here alone, where each function looks at as much as it counts.
+//! Counts the visits of the search, which bounds its time.
 
 ghost use Rattle.std.specs.Prelude.{◌≡◌, ◌<◌, ◌+◌, ◌-◌, ◌*◌, IfSome};
 ghost use Rattle.geos_potentials.specs.Least.{StayAtMost};
@@ -10,7 +10,7 @@ use crate::spread::Spread;
 use control_graph::{Order, Piece, Pile};
 use geos_image::MOST_INSTRS;
 
-/// How much is looked at in all: some 2 s. Of the texts that were made to hurt none took a third of that.
+/// The most visits in all: about 2 s. No hostile text that was tried took a third of that.
 pub(crate) const LOOKS: u32 = 1 << 27;
 
 /// How many edges, places and nests were looked at.
@@ -30,7 +30,7 @@ impl Looked {
         self.count = self.count.saturating_add(more);
     }
 
-    /// Whether more may be looked at.
+    /// Whether more visits are allowed.
     pub(crate) fn are_few(&self) -> bool {
         self.count < LOOKS
     }

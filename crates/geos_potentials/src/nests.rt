@@ -1,4 +1,4 @@
-//! Nests: places among which control goes round, each with the LOOPs that pay for that.
+//! Loop nests: strongly connected instructions, each nest with the LOOPs that pay for its cycles.
 
 ghost use Rattle.std.specs.Prelude.{◌≡◌, ◌<◌, ◌+◌, None, Some, true, false, min, slice_index_or};
 ghost use Rattle.geos_potentials.specs.Stuck.{StayNoted};
@@ -28,7 +28,7 @@ pub struct Wait {
     pub(crate) round: u32,
 }
 
-/// Places among which control goes round.
+/// Strongly connected instructions.
 #[derive(Clone, Copy)]
 pub struct Nest {
     pub piece: Piece,
@@ -38,7 +38,8 @@ pub struct Nest {
     pub(crate) around: Option<u16>,
     /// How many are around it.
     depth: u16,
-    /// Whether some LOOP in it may pay, and each that may has a counter that is set in it, and kept from there to the LOOP.
+    /// Whether some LOOP in it may pay, and each that may has a counter that is set in it, with a path from there that leaves it unchanged up to
+    /// the LOOP.
     pub tight: bool,
     /// Whether it is to be paid for.
     pub(crate) due: bool,
@@ -206,7 +207,7 @@ impl Splitting {
         })
     }
 
-    /// Whether control goes round among the places of a piece, which are a component.
+    /// Whether a component has a cycle.
     fn goes_round(&self, graph: &Graph, piece: &Piece) -> bool {
         if MOST_INSTRS <= piece.begin || piece.length() == 0 {
             return false;
@@ -219,7 +220,7 @@ impl Splitting {
             || lead_within(graph, &self.jumps, &self.order, piece, pc, true).is_some()
     }
 
-    /// Splits a piece into its components; those in which control goes round are to be nests.
+    /// Splits a piece into its strongly connected components. Those with a cycle become nests.
     fn split(&mut self, graph: &Graph, piece: &Piece, around: Option<u16>) {
         self.components
             .arrange(graph, &self.jumps, &mut self.order, piece);
@@ -278,7 +279,7 @@ impl Splitting {
         Ok(())
     }
 
-    /// LOOPs to which control comes with their counters at 0 alone are left out.
+    /// Leaves out LOOPs that are reached only with their counters at 0.
     fn free_loops(&mut self, body: &Body, graph: &Graph, classes: &Classes) {
         self.jumps.fill_from(body.start, Jump::Plain);
         for pc in body.start..body.end {
@@ -297,8 +298,8 @@ impl Splitting {
         self.split(graph, &all, None);
     }
 
-    /// Finds the nests of a routine, so that wherever control goes round a LOOP of some nest pays, or one is left out; or a component in which
-    /// control goes round and no LOOP may pay. What is known of counters stays, but for what is set in a piece.
+    /// Finds the nests of a routine, such that on each cycle a LOOP of some nest pays or is left out; otherwise returns a component with a cycle
+    /// in which no LOOP may pay. The facts on counters are unchanged, except for those that are set in a piece.
     pub(crate) fn find(
         &mut self,
         body: &Body,
@@ -329,7 +330,7 @@ impl Splitting {
         }
     }
 
-    /// Finds a component in which control goes round, and no LOOP on the way may pay, in the place of nests; none where there is none.
+    /// Finds a component with a cycle on which no LOOP may pay, and no nests; `None` if there is no such component.
     pub(crate) fn find_idle(
         &mut self,
         body: &Body,

@@ -1,4 +1,4 @@
-//! A nest that is paid for: the least unit with which no way round in it lacks something.
+//! Pays for a nest: finds the least unit with which no cycle in it has a shortfall.
 
 ghost use Rattle.std.specs.Prelude.{◌≡◌, ◌<◌, ◌-◌, Option, None, Some, true};
 ghost use Rattle.control_graph.specs.declared.arcs.Arc.{Arc};
@@ -15,14 +15,14 @@ use crate::units::{Lack, Units};
 use control_graph::{Arc, Graph, Jump};
 use geos_image::MOST_INSTRS;
 
-/// How often the unit of a nest is raised to just what a way round lacks, before it is doubled each time.
+/// How often the unit of a nest is raised by exactly the shortfall of a cycle, before it is doubled each time.
 const RAISES: u32 = 32;
 
 /// So many sweeps over a nest are each followed by a look for ways that come round, then every so many: such a way grows with each sweep, and is
 /// found at last.
 const EACH: u32 = 4;
 
-/// A way round that lacks something.
+/// A cycle with a shortfall.
 #[derive(Clone, Copy)]
 struct Round {
     costs: u64,
@@ -33,11 +33,11 @@ struct Round {
     /// The same, whatever the unit is.
     all_takes: u64,
     all_sets: u64,
-    /// The least unit at its LOOPs; none where it has none.
+    /// The least unit at its LOOPs; none if it has none.
     least: Option<u32>,
     /// The least of those that are more than the nest's; the most there can be, where none is.
     above: u32,
-    /// The least number of another nest of which a LOOP takes on it; none where none does.
+    /// The least number of another nest of which a LOOP takes on it; none if none does.
     inner: Option<u16>,
 }
 
@@ -56,7 +56,7 @@ impl Round {
         inner: None,
     };
 
-    /// The same with what one more edge costs, on which a LOOP of another nest takes, if one does; none where that is past 64 bits.
+    /// The same with what one more edge costs, on which a LOOP of another nest takes, if one does; none if that is past 64 bits.
     fn with_cost(&self, link: &Link, other: Option<u16>) -> Option<Round> {
         let costs = self.costs.checked_add(link.costs)?;
         let paid = self.paid.checked_add(link.paid)?;
@@ -102,7 +102,7 @@ impl Round {
     }
 }
 
-/// The lesser of two numbers of nests; of one alone, that one.
+/// The lesser of two numbers of nests, or the one that there is.
 fn lesser_of(first: Option<u16>, second: Option<u16>) -> Option<u16> {
     match (first, second) {
         (Some(one), Some(other)) => Some(one.min(other)),
@@ -111,7 +111,7 @@ fn lesser_of(first: Option<u16>, second: Option<u16>) -> Option<u16> {
     }
 }
 
-/// The nest other than one of which a LOOP takes on the edge of a place, if that is so.
+/// The other nest whose LOOP takes on the edge of an instruction, if there is one.
 fn other_nest(splitting: &Splitting, id: u16, pc: u16, branch: bool) -> Option<u16>
     requires { pc < 4096 }
 {
@@ -127,9 +127,9 @@ fn other_nest(splitting: &Splitting, id: u16, pc: u16, branch: bool) -> Option<u
 /// What is still to be paid for with the unit that is found for a nest.
 #[derive(Clone, Copy)]
 pub(crate) enum Rest {
-    /// No way round in it lacks something.
+    /// No cycle in it has a shortfall.
     Nothing,
-    /// A way round does on which none of its LOOPs takes; the outermost nest in it of which one does, if there is one.
+    /// A cycle on which none of its LOOPs takes has a shortfall. The outermost nest in it whose LOOP takes on the cycle, if there is one.
     Inside(Option<u16>),
 }
 
@@ -149,8 +149,7 @@ fn low_set(most: u16, here: u32, unit: u32) -> u64 {
 /// The most that a unit can pay for.
 const MOST: u64 = u32::MAX as u64;
 
-/// The unit with which the way round that lacks something is paid for, where LOOPs take so many units more than are set; past the most, where
-/// none pays for it.
+/// The unit that pays for a cycle with a shortfall, if its LOOPs take `takes` units more than are set; above the limit if none pays for it.
 fn paying_unit(unit: u32, round: &Round, takes: u64, raises: u32) -> u64
     requires some { 0 < takes }
 {
@@ -171,8 +170,8 @@ fn paying_unit(unit: u32, round: &Round, takes: u64, raises: u32) -> u64
     }
 }
 
-/// The unit of a nest, where the way round that lacks something is paid for, and the least at its LOOPs there is so much; none where it is
-/// not, whatever the unit is.
+/// The next unit of a nest, which pays for a cycle with a shortfall; `least` is the least unit at the LOOPs of the cycle. `None` if no unit
+/// pays.
 fn next_unit(unit: u32, round: &Round, least: u32, raises: u32) -> Option<u64> {
     if round.takes == 0 && round.sets == 0 {
         return Some(u64::from(least));
@@ -181,7 +180,7 @@ fn next_unit(unit: u32, round: &Round, least: u32, raises: u32) -> Option<u64> {
     if takes != 0 {
         return Some(paying_unit(unit, round, takes, raises));
     }
-    // Where LOOPs take more in all than is set, it is paid for from some unit on that one of them has.
+    // If LOOPs take more in all than is set, some unit that one of them has is enough.
     if round.all_takes <= round.all_sets {
         None
     } else {
@@ -214,7 +213,7 @@ impl Paying {
         Some(most)
     }
 
-    /// An edge with what it costs; `pays` where it is the way to its target of one of the nest's LOOPs.
+    /// An edge with what it costs; `pays` if it is the way to its target of one of the nest's LOOPs.
     fn link(&self, units: &Units, pc: u16, arc: &Arc, pays: bool) -> Link
         requires { pc < 4096 }
     {
@@ -251,7 +250,7 @@ impl Paying {
         }
     }
 
-    /// The edge of a place that is looked at.
+    /// The edge of an instruction in the search.
     fn link_at(
         &self,
         graph: &Graph,
@@ -281,7 +280,7 @@ impl Paying {
         units.lengths.forget(&splitting.order, piece);
     }
 
-    /// A way round with one more edge, on which a LOOP of another nest takes, if one does.
+    /// A cycle extended by an edge, with the nest of the other LOOP that takes on the edge, if one does.
     fn with_link(
         &self,
         units: &Units,
@@ -301,7 +300,7 @@ impl Paying {
         }
     }
 
-    /// The way round from a place, along the edges that made ways so long, if it lacks something.
+    /// The cycle from an instruction along the edges of the longest paths, if it has a shortfall.
     fn round_at(
         &self,
         graph: &Graph,
@@ -330,7 +329,7 @@ impl Paying {
         None
     }
 
-    /// The unit, where a way round is paid for, too, and the least at its LOOPs there is so much.
+    /// The unit raised to pay for a cycle too; `least` is the least unit at its LOOPs.
     fn raised(&self, round: &Round, least: u32, raises: u32) -> Result<u32, Lack>
         requires { round.now.least ≡ Some least }
     {
@@ -343,7 +342,7 @@ impl Paying {
         }
     }
 
-    /// A way round that lacks something, if one is found.
+    /// A cycle with a shortfall, if one is found.
     fn find_round(&self, graph: &Graph, splitting: &Splitting, units: &mut Units) -> Option<Round>
         ensures { units.new.pay ≡ units.old.pay }
     {
@@ -353,8 +352,8 @@ impl Paying {
         self.round_at(graph, splitting, units, at)
     }
 
-    /// The least unit with which no way round lacks something, but for ways on which none of the nest's LOOPs takes: those are paid for in nests
-    /// in this one. It ends at the first that is found.
+    /// The least unit with which no cycle has a shortfall. Cycles on which none of the nest's LOOPs takes are paid for by inner nests; the search
+    /// ends at the first of these that has a shortfall.
     pub(crate) fn find_unit(
         &mut self,
         graph: &Graph,

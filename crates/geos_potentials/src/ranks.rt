@@ -1,4 +1,4 @@
-//! Whether control goes round in a routine only where a LOOP may pay: then places have ranks that rise along all other edges.
+//! Whether each cycle of a routine has a LOOP that may pay: then instructions have ranks that rise along all other edges.
 
 ghost use Rattle.std.specs.Prelude.{◌≡◌, ◌<◌, ◌≤◌, ℕ, true, slice_index, IfOk};
 ghost use Rattle.geos_counters.specs.Touching.{KnowsTouched};
@@ -109,7 +109,7 @@ fn all_rise(body: &Body, classes: &Classes, ranks: &Ranks) -> bool
     true
 }
 
-/// Whether it is found that on each way round a LOOP may pay, by what is noted of counters.
+/// Whether each cycle is found to have a LOOP that may pay, according to the notes on counters.
 fn some_may_pay(alloc: Global, body: &Body, classes: &Classes) -> Result<bool, AllocError>
     requires { AreIdleNoted body.now.image.now body.now.r classes.now }
     ensures { IfOk result (λ some. some ≡ true → IsNeverPaid body.now.image.now body.now.r → ⊥) }
@@ -120,7 +120,7 @@ fn some_may_pay(alloc: Global, body: &Body, classes: &Classes) -> Result<bool, A
     Ok(all_rise(body, classes, &ranks))
 }
 
-/// Whether it is found that on each way round in a routine a LOOP may pay.
+/// Whether each cycle of a routine is found to have a LOOP that may pay.
 pub fn some_always_may_pay(
     alloc: Global,
     body: &Body,

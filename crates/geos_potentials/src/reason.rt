@@ -15,7 +15,7 @@ pub struct Halted {
 pub enum Reason {
     /// There are no loops, and the steps are past what a potential can say.
     TooMany,
-    /// Control goes round by this way back, and takes no LOOP's way to its target.
+    /// This back edge is on a cycle that takes no LOOP's edge to its target.
     NoLoop(BackWay),
     /// Something was in the way of the search.
     InTheWay(Halted),

@@ -23,7 +23,7 @@ fn set_in(graph: &Graph, order: &Order, piece: &Piece, counter: u8, at: u16) -> 
     }
 }
 
-/// Notes to where a counter is kept from a place.
+/// Notes the instructions to which a path from a given one leaves a counter unchanged.
 fn note_kept(graph: &Graph, from: u16, counter: u8, kept: &mut Spread, waits: &mut Pile)
     requires { from < 4096 }
 {
@@ -46,7 +46,8 @@ fn loop_pays(graph: &Graph, splitting: &Splitting, nest: u16, counter: u8, at: u
     taken == counter && splitting.jumps.at(at).pays_in(nest)
 }
 
-/// Whether a counter is kept from a place up to a LOOP that takes from it, and pays in a nest of these places; `kept` has to where it is.
+/// Whether some path from an instruction leaves a counter unchanged up to a LOOP that takes from it, and that pays in a nest. `kept` has the
+/// instructions at the ends of those paths.
 fn leads_to_paying(
     graph: &Graph,
     splitting: &Splitting,
@@ -128,8 +129,8 @@ fn is_ring(
     false
 }
 
-/// The nest where one comes to that goes on, as often as there are nests, to the one on which each was noted to wait in the later half of so
-/// many rounds: one of a ring, by what was noted.
+/// A nest of a ring of nests that wait for each other: the nest after as many steps as there are nests, each to the nest for which the last
+/// was noted to wait in the later half of the rounds.
 fn on_ring(nests: &Nests, from: u16, round: u32) -> Option<u16>
     requires { from < 4096 }
     ensures { IfSome result (λ id. id < 4096) }

@@ -30,7 +30,7 @@ use std::alloc::{AllocError, Global};
 /// What is in the way of the search.
 #[derive(Clone, Copy)]
 pub enum Halt {
-    /// Control goes round in a component, and no LOOP on the way may pay.
+    /// A component has a cycle on which no LOOP may pay.
     Stuck(Piece),
     /// Nests are not paid for.
     Unpaid(Lack),
@@ -76,7 +76,7 @@ impl Search {
         Ok(())
     }
 
-    /// Why nests stop at a component: control goes round in it, and no LOOP may pay there. That it always does so is not proved.
+    /// Why nests stop at a component: it has a cycle on which no LOOP may pay. That it always has one is not proved.
     fn halt_at(&self, body: &Body, piece: Piece) -> Halt
         ensures { NotesIdle body.now.image.now body.now.r self.now.classes → IsInTheWay body.now.image.now body.now.r result }
     {
@@ -87,8 +87,8 @@ impl Search {
         }
     }
 
-    /// Finds potentials of a routine, or what is in the way. They pay for its edges and returns, which is looked at; the constants are the
-    /// least that do with the coefficients, and each of these is wanted for a LOOP.
+    /// Finds potentials of a routine, or the reason why there are none. They pay for its edges and returns, which is tested. The constants are
+    /// the least with these coefficients, and each coefficient is required by a LOOP.
     pub fn find(
         &mut self,
         body: &Body,
@@ -121,7 +121,7 @@ impl Search {
         }
     }
 
-    /// Finds a component in which control goes round on a way on which no LOOP may pay, if all is known that routines touch.
+    /// Finds a component with a cycle on which no LOOP may pay, if it is known what each routine touches.
     pub fn find_idle(&mut self, body: &Body, known: &Known, touched: &Touched) -> Option<Piece>
         ensures { NotesTouched body.now.image.now touched.now → IfSome result (λ _. IsNeverPaid body.now.image.now body.now.r) }
     {

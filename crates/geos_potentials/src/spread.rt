@@ -68,7 +68,7 @@ pub(crate) fn raise(spread: &mut Spread, waits: &mut Pile, pc: u16, numbers: &[u
     ensures raised { AreRaised spread.old spread.new pc numbers.now }
     ensures work { 2 * left_in spread.new + waits.new.count ≤ 2 * left_in spread.old + waits.old.count }
 {
-    // For what its law says.
+    // Recalls the lemma.
     spread.lengths();
     let here = *spread.get(pc);
     let next = greatest(&here, numbers);
@@ -90,7 +90,7 @@ fn go_along(graph: &Graph, spread: &mut Spread, waits: &mut Pile, pc: u16, branc
     }
 }
 
-/// The numbers at the places that wait go along all edges: those from a pc on, which are of the routine that is looked at.
+/// Propagates the numbers of the worklist along all edges. The instructions of the routine begin at `low`.
 pub(crate) fn go_on(graph: &Graph, low: u16, spread: &mut Spread, waits: &mut Pile)
     ensures { HaveCome graph.now.arcs low spread.old spread.new }
 {
@@ -171,8 +171,8 @@ fn without(numbers: &[u32; 4], counter: Option<u8>) -> [u32; 4]
     }
 }
 
-/// The numbers where an edge leads go back over it, but for that of a LOOP there which is not left out: control comes to one that is with 0 of
-/// its counter alone, and so to none before it on whose counter there may be more.
+/// Propagates the numbers at an edge's target backwards over the edge, except that of a LOOP there that is not left out. A LOOP that is left
+/// out is reached only with its counter at 0, and so is each instruction before it that leaves the counter unchanged.
 fn go_back_free_over(
     graph: &Graph,
     jumps: &Jumps,

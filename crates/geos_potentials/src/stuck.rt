@@ -9,7 +9,7 @@ use crate::idle::lead_idle;
 use control_graph::{Order, Piece};
 use geos_code::Body;
 
-/// Where an edge of a place leads that stays in a piece, and on which no LOOP may pay, by what is noted.
+/// The target of an edge that stays in a piece, and on which no LOOP may pay according to the notes.
 fn lead_in(
     body: &Body,
     classes: &Classes,
@@ -27,7 +27,7 @@ fn lead_in(
     if order.has(piece, to) { Some(to) } else { None }
 }
 
-/// Where control can go on so from a place, to the next instruction if it can.
+/// The target of the first of these edges from an instruction, that to the next instruction first.
 fn goes_on(body: &Body, classes: &Classes, order: &Order, piece: &Piece, pc: u16) -> Option<u16>
     ensures leads { NotesIdle body.now.image.now body.now.r classes.now → IfSome result (LeadsOnIdle body.now.image.now body.now.r pc) }
     ensures inside { IfSome result (λ to. to < 4096) }
@@ -41,7 +41,7 @@ fn goes_on(body: &Body, classes: &Classes, order: &Order, piece: &Piece, pc: u16
     }
 }
 
-/// A place on a way round: one goes on for so long that some place comes twice.
+/// An instruction on a cycle, found by a walk that is so long that it visits some instruction twice.
 fn place_on_round(body: &Body, classes: &Classes, order: &Order, piece: &Piece) -> Option<u16> {
     if piece.length() == 0 {
         return None;
@@ -70,7 +70,7 @@ fn comes_back(body: &Body, classes: &Classes, order: &Order, piece: &Piece, from
     false
 }
 
-/// Whether control goes round so in a piece: it does wherever each place of the piece leads on in it.
+/// Whether the piece has a cycle of these edges: it has one if each instruction of the piece has such an edge.
 pub(crate) fn goes_round_idle(body: &Body, classes: &Classes, order: &Order, piece: &Piece) -> bool
     ensures { result ≡ true → NotesIdle body.now.image.now body.now.r classes.now → IsNeverPaid body.now.image.now body.now.r }
 {

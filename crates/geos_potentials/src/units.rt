@@ -1,4 +1,4 @@
-//! What a unit of each counter pays for, nest by nest: as much as ways round lack that go through its LOOPs.
+//! Finds the unit of each nest's counter: the shortfall of the cycles through its LOOPs.
 
 ghost use Rattle.std.specs.Prelude.{◌≡◌, ◌≢◌, ◌<◌, ◌≤◌, ◌+◌, ◌-◌, ◌*◌, ℕ, min, true, false, Some};
 ghost use Rattle.geos_potentials.specs.Arcs.{IsLink, unit_at, price_of, paid_by};
@@ -24,7 +24,7 @@ const ROUNDS: u32 = 64;
 /// Why no units are found.
 #[derive(Clone, Copy)]
 pub enum Lack {
-    /// The counter of a nest is set in it, on a way round, to as much as its LOOPs take from it there, or to more.
+    /// The counter of a nest is set in it, on a cycle, to at least as much as its LOOPs take from it there.
     SetWithin(Piece),
     /// What a unit pays for, or what it costs to set its counter, is past what a potential can say.
     Passes,
@@ -40,7 +40,7 @@ pub struct Units {
     /// What a unit of each counter pays for, at each place.
     pub pay: Spread,
     pub(crate) lengths: Lengths,
-    /// 1 of a nest's counter where it is kept up to a LOOP that pays in the nest.
+    /// 1 of a nest's counter at each instruction from which a path leaves it unchanged up to a LOOP that pays in the nest.
     pub(crate) before: Spread,
     waits: Pile,
     looked: Looked,
@@ -67,8 +67,7 @@ fn set_due(splitting: &mut Splitting, id: u16)
     splitting.nests.set(id, nest);
 }
 
-/// Where a way round in a nest is still to be paid for, that nest is to be paid for again, and before it the one in it of which a LOOP takes
-/// there.
+/// Notes that a nest with an unpaid cycle has to be paid for again, after the inner nest whose LOOP takes on that cycle.
 fn note_rest(splitting: &mut Splitting, id: u16, rest: &Rest)
     requires { id < 4096 }
 {
@@ -97,7 +96,7 @@ impl Units {
         })
     }
 
-    /// Whether more may be looked at.
+    /// Whether more visits are allowed.
     pub(crate) fn may_look(&self) -> bool {
         self.looked.are_few()
     }
@@ -143,7 +142,7 @@ impl Units {
         }
     }
 
-    /// Units for LOOPs that are left out are where they are asked for.
+    /// Propagates the units of LOOPs that are left out to the instructions that need them.
     pub(crate) fn carry_free(&mut self, graph: &Graph, jumps: &Jumps)
         ensures lengths { self.new.lengths ≡ self.old.lengths }
         ensures wanted { StayWanted graph.now.arcs self.old.pay self.new.pay }
@@ -153,7 +152,7 @@ impl Units {
         go_back_free(graph, jumps, &mut self.pay, &mut self.waits);
     }
 
-    /// What it costs that an edge sets a counter which is wanted where it leads.
+    /// What an edge costs that sets a counter whose units are needed at its target.
     fn price(&self, to: u16, counting: &Counting) -> u64
         requires { to < 4096 }
         ensures value { result ≡ price_of self.now.pay to counting.now }
@@ -194,7 +193,7 @@ impl Units {
         }
     }
 
-    /// Notes from where the counter of a nest is kept up to its LOOPs.
+    /// Notes the instructions from which a path leaves the counter of a nest unchanged up to its LOOPs.
     fn note_before(&mut self, graph: &Graph, splitting: &Splitting, paying: &Paying)
         ensures { self.new.pay ≡ self.old.pay }
     {
@@ -240,7 +239,7 @@ impl Units {
         }
     }
 
-    /// Nests are to be paid for in which a counter is set for the units at a place, which have grown; `false` where what that costs is past
+    /// Nests are to be paid for in which a counter is set for the units at a place, which have grown; `false` if what that costs is past
     /// what a potential can say.
     fn note_dearer(
         &self,
@@ -272,7 +271,7 @@ impl Units {
         true
     }
 
-    /// Units that have grown at the places that wait are there where they are asked for.
+    /// Propagates units that have grown at the instructions of the worklist to those that need them.
     fn carry(
         &mut self,
         graph: &Graph,
@@ -290,7 +289,7 @@ impl Units {
         if fits { Ok(()) } else { Err(Lack::Passes) }
     }
 
-    /// The unit of a nest is at its LOOPs, and where it is asked for.
+    /// Stores the unit of a nest at its LOOPs, and propagates it to the instructions that need it.
     fn set_unit(
         &mut self,
         graph: &Graph,
@@ -359,8 +358,8 @@ impl Units {
         Ok(some)
     }
 
-    /// Pays for all nests of a routine, round by round, until none is to be paid for, or nests that still are wait on each other in a ring.
-    /// Whatever a unit pays for at a place is wanted by a LOOP.
+    /// Pays for all nests of a routine, round by round, until none is left, or the nests that are left wait for each other in a ring. Each unit
+    /// at an instruction is needed by a LOOP.
     pub(crate) fn pay_all(
         &mut self,
         start: u16,
@@ -372,7 +371,7 @@ impl Units {
     {
         self.looked = Looked::new();
         self.pay.fill_from(0, [0; 4]);
-        // For what its law says.
+        // Recalls the lemma.
         self.pay.lengths();
         self.lengths.clear(start);
         let mut round = 1;

@@ -9,7 +9,7 @@ use geos_causes::BackWay;
 use geos_code::{Body, edge_in, is_loop};
 use pc_tables::Table;
 
-/// Where an edge of the instruction leads, if it has it, it stays in the routine, and it is no LOOP's way to its target.
+/// The target of an edge, if the instruction has the edge, it stays in the routine, and it is not the taken edge of a LOOP.
 pub(crate) fn lead_unpaid(body: &Body, pc: u16, branch: bool) -> Option<u16>
     requires { pc < body.now.end }
     ensures leads { IfSome result (LeadsUnpaid body.now.image.now body.now.r pc branch) }
@@ -59,7 +59,7 @@ fn first_place(body: &Body, into: &Table<WaysIn>) -> Option<u16>
     None
 }
 
-/// A place on a way round: one goes back along the edges that are noted for so long that some place comes twice.
+/// An instruction on a cycle, found by a walk backwards along the noted edges that is so long that it visits some instruction twice.
 fn place_on_round(body: &Body, into: &Table<WaysIn>) -> Option<u16>
     ensures { IfSome result (λ pc. pc < 4096) }
 {
@@ -105,7 +105,7 @@ fn leads_on(body: &Body, into: &Table<WaysIn>, from: u16, to: u16) -> bool
     false
 }
 
-/// The way back on the way round that a place is on.
+/// The back edge of the cycle that an instruction is on.
 fn back_on_round(body: &Body, into: &Table<WaysIn>, place: u16) -> Option<BackWay>
     requires { place < 4096 }
     ensures { IfSome result (λ back. GoesRound body.now.image.now body.now.r back.from back.to) }
@@ -122,7 +122,7 @@ fn back_on_round(body: &Body, into: &Table<WaysIn>, place: u16) -> Option<BackWa
     None
 }
 
-/// A way back on a way round that no counter pays for, by tables that are only written.
+/// A back edge of a cycle that no counter pays for, from the noted edges.
 pub(crate) fn round_by(
     body: &Body,
     into: &mut Table<WaysIn>,

@@ -45,8 +45,8 @@ fn bring(body: &Body, known: &Comings, pc: u16, branch: bool) -> Option<Brought>
     })
 }
 
-/// What is known at a pc goes along an edge: control is known to come to the place where that leads now, and that waits to go on,
-/// unless it was known before. Whether that is new; `Err` where slots differ.
+/// What is known at a pc goes along an edge: control is known to come to the place where that leads now, and that waits to continue,
+/// unless it was known before. Whether that is new; `Err` if slots differ.
 fn go(
     body: &Body,
     known: &mut Comings,
@@ -71,7 +71,7 @@ fn go(
         row: brought.row,
         emptied,
     };
-    // For what their law says.
+    // Recalls the lemma.
     known.lengths();
     waits.lengths();
     match known.at(to) {
@@ -89,7 +89,7 @@ fn go(
     }
 }
 
-/// What waits at a pc goes on along both edges. Whether something is new.
+/// Follows both edges of a waiting pc. Returns whether the search found something new.
 fn go_on(body: &Body, known: &mut Comings, waits: &mut Table<bool>, pc: u16) -> Result<bool, Apart>
     requires here { pc < body.now.end }
     requires spread { IsSpread body.now.image.now body.now.r known.old waits.old }
@@ -103,7 +103,7 @@ fn go_on(body: &Body, known: &mut Comings, waits: &mut Table<bool>, pc: u16) -> 
     Ok(along || aside)
 }
 
-/// All that waits goes on along its edges. Each place does so once, whichever way control takes. Whether something is new.
+/// Follows the edges of all waiting pcs, each at most once. Returns whether the search found something new.
 fn go_all(body: &Body, known: &mut Comings, waits: &mut Table<bool>) -> Result<bool, Apart>
     requires { IsSpread body.now.image.now body.now.r known.old waits.old }
     ensures spread { IfOk result (λ further. IsSpread body.now.image.now body.now.r known.new waits.new) }
@@ -136,7 +136,7 @@ fn first_apart(body: &Body, known: &mut Comings, waits: &mut Table<bool>) -> Opt
     }
 }
 
-/// How control comes to the places of a routine. `Err` where it comes to one on two ways with slots that differ in more than marks, which
+/// How control comes to the places of a routine. `Err` if it comes to one on two ways with slots that differ in more than marks, which
 /// is the first such place that is found.
 pub(crate) fn find_comings(alloc: Global, body: &Body) -> Result<Result<Comings, Apart>, AllocError>
     ensures err { IfOk result (λ found. IfErr found (AreApart body.now.image.now body.now.r)) }
@@ -144,7 +144,7 @@ pub(crate) fn find_comings(alloc: Global, body: &Body) -> Result<Result<Comings,
     ensures none { IfOk result (λ found. IfOk found (λ _. MeetAlike body.now.image.now body.now.r)) }
 {
     let (mut known, mut waits) = two_tables(alloc, None, false)?;
-    // For what their law says.
+    // Recalls the lemma.
     known.lengths();
     waits.lengths();
     known.set(

@@ -112,7 +112,7 @@ fn joined(r: &Row, s: &Row) -> Row
 }
 
 /// The least of the rows that both fit: what is known where control may come with either.
-/// `None` where there is no such row, since a slot is in states that differ in more than a mark.
+/// `None` if there is no such row, since a slot is in states that differ in more than a mark.
 pub fn join(one: &Row, other: &Row) -> Option<Row>
     ensures value { result ≡ join one.now other.now }
     ensures some { IfSome result (IsLeastAbove one.now other.now) }

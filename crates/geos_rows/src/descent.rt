@@ -12,7 +12,7 @@ use geos_code::{Body, Known, edge_in};
 const DESCENTS: u16 = 2;
 
 /// Makes what is known at first in a routine its entry row, and what edges to targets that lead back say of
-/// the rows that are known; `false` where two of them have no join.
+/// the rows that are known; `false` if two of them have no join.
 fn seed(body: &Body, known: &Known, from: &mut Known) -> bool
     ensures { MeetAlike body.now.image.now body.now.r → AllComeAlike body.now.image.now body.now.r known.now
         → (result ≡ true) × AllComeAlike body.now.image.now body.now.r from.new }
@@ -33,7 +33,7 @@ fn seed(body: &Body, known: &Known, from: &mut Known) -> bool
 }
 
 /// Rows flow again, from what the edges that lead back say of the rows that are known: they fit what is
-/// known, and still hold. `false` where two have no join.
+/// known, and still hold. `false` if two have no join.
 pub(crate) fn descend(body: &Body, from: &mut Known, known: &mut Known) -> bool
     ensures { StaysAlike body.now.image.now body.now.r known.old known.new result }
 {

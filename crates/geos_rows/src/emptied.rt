@@ -1,4 +1,4 @@
-//! Slots that a CALL leaves empty, since the lines of its routine do not say that they are held.
+//! Slots that are empty after a CALL, since the `in` and `out` lines of the called routine do not name them.
 
 ghost use Rattle.std.specs.Prelude.{◌≡◌, ◌<◌, IfSome};
 ghost use Rattle.geos_verify.specs.Rows.{after};
@@ -11,7 +11,7 @@ use geos_code::{Body, Lead};
 use geos_image::{Opcode, Row};
 use geos_verify::{is_empty, slot_state};
 
-/// The instruction at a pc, if it is a CALL, the slot is held before it, and the `in` line of the routine that it calls does not say so.
+/// The instruction at a pc, if it is a CALL, the slot is locked before it, and the `in` line of the called routine does not name the slot.
 fn call_beside(body: &Body, pc: u16, before: &Row, a: u8) -> Option<Emptied>
     requires { pc < body.now.end }
     ensures at { IfSome result (λ emptied. emptied.at ≡ pc) }

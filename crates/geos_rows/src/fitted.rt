@@ -11,12 +11,12 @@ use geos_code::{Body, Known, clean, edge_end, leads_back, shape};
 use geos_image::Row;
 use geos_verify::{after, fits, has_edge};
 
-/// A law: a word is at most the greatest one.
+/// Lemma: a word is at most 65,535.
 fn word(bound: u16)
     ensures { nat_le bound 65535 ≡ true }
 {}
 
-/// A law: bounds are those of words.
+/// Lemma: each bound is at most 65,535.
 fn words(bounds: &[u16; 8])
     ensures { all2 nat_le bounds.now any_words ≡ true }
 {
@@ -44,8 +44,8 @@ fn fits_known(known: &Option<Row>, row: &Row) -> bool
     }
 }
 
-/// Whether what is known behind an edge of the instruction at a pc fits what is known where it leads, if
-/// there is such an edge and it stays in the routine.
+/// Whether the row after an edge of the instruction at a pc implies the row at the edge's target. True if the instruction has no such
+/// edge, or the edge leaves the routine.
 fn edge_fits(body: &Body, pc: u16, branch: bool, known: &Known) -> bool
     requires { pc < body.now.end }
     ensures fits { (result ≡ true) ↔ EdgeFits body.now.image.now body.now.r known.now pc branch }
@@ -64,7 +64,7 @@ fn edge_fits(body: &Body, pc: u16, branch: bool, known: &Known) -> bool
     }
 }
 
-/// Whether what is known behind each edge of a routine that leads back fits what is known where that leads.
+/// Whether the row after each back edge of a routine implies the row at the edge's target.
 pub(crate) fn back_edges_fit(body: &Body, known: &Known) -> bool
     ensures none { ForwardIn body.now.image.now body.now.r → result ≡ true }
     ensures fit { result ≡ true → BackFit body.now.image.now body.now.r known.now }
@@ -77,8 +77,8 @@ pub(crate) fn back_edges_fit(body: &Body, known: &Known) -> bool
     true
 }
 
-/// Whether the entry row of a routine fits what is known where it begins, and what is known behind each
-/// edge fits what is known where that leads.
+/// Whether the entry row of a routine implies the row of its first instruction, and the row after each edge implies the row at the
+/// edge's target.
 pub(crate) fn all_fit(body: &Body, known: &Known) -> bool
     ensures fit { result ≡ true → AllFit body.now.image.now body.now.r known.now }
     ensures weak { AllWeak body.now.image.now body.now.r known.now → result ≡ true }

@@ -14,7 +14,7 @@ use geos_code::{Body, Known, Lead, clean, edge_in};
 use geos_image::Row;
 use geos_verify::after;
 
-/// What is known where another row comes to a place; nothing where they have no join.
+/// What is known where another row comes to a place; nothing if they have no join.
 fn join_known(old: &Option<Row>, row: &Row) -> Option<Row>
     ensures some { IfSome result (IsJoin old.now row.now) }
     ensures none { IfNone result (HaveNoJoin old.now row.now) }
@@ -55,7 +55,7 @@ fn arrive(known: &mut Known, to: u16, row: &Row) -> Arrival
     ensures there { StaysKnown known.old known.new }
     ensures stays { StaysBefore to known.old known.new }
 {
-    // For what its law says.
+    // Recalls the lemma.
     known.lengths();
     let old = known.at(to);
     let Some(joined) = join_known(&old, row) else {
@@ -68,8 +68,7 @@ fn arrive(known: &mut Known, to: u16, row: &Row) -> Arrival
     }
 }
 
-/// A row goes along an edge: what is known behind the instruction comes to the place where the edge
-/// leads.
+/// Propagates a row along an edge: joins the row after the instruction into the row at the edge's target.
 pub(crate) fn spread(body: &Body, lead: Lead, row: &Row, known: &mut Known) -> Arrival
     requires { IsInside body.now.image.now body.now.end lead.edge.from lead.edge.branch lead }
     ensures arrives { Arrives result known.old lead.to (after body.now.image.now lead.edge.from (clean row.now) lead.edge.branch) known.new }
@@ -80,7 +79,7 @@ pub(crate) fn spread(body: &Body, lead: Lead, row: &Row, known: &mut Known) -> A
     arrive(known, lead.to, &next)
 }
 
-/// The row that is known at the pc goes along the edge, if that leads ahead; `false` where it has no
+/// The row that is known at the pc goes along the edge, if that leads ahead; `false` if it has no
 /// join with what is known there.
 fn spread_ahead(body: &Body, pc: u16, branch: bool, known: &mut Known) -> bool
     requires above { body.now.start ≤ pc }

@@ -22,18 +22,18 @@ struct Place {
     ghost inside: { pc < 4096 },
 }
 
-/// When a place has its turn.
+/// The position of an instruction in the order of visits.
 #[derive(Clone, Copy)]
 struct Turn {
     turn: u16,
     ghost inside: { turn < 4096 },
 }
 
-/// Each place of a routine has its turn behind those from which control comes to it, but along the edges that lead back: each way
-/// round has such an edge, and none that is not on one leads back so.
+/// An order of the instructions of a routine, in which each comes after its predecessors, except along back edges. Each cycle has a back
+/// edge, and each back edge is on a cycle.
 #[derive(Drop)]
 pub(crate) struct Order {
-    /// The place of each turn.
+    /// The instruction at each position.
     places: Table<Place>,
     /// The turn of each place.
     turns: Table<Turn>,
@@ -47,8 +47,8 @@ pub(crate) struct Order {
     ghost short: { length ≤ 4096 },
 }
 
-/// Where one of the two edges leads from a pc, if it is there and stays in the routine. Of both that which leads further on in the text
-/// is followed first, so that of two places that do not hang together the one that comes first in the text has its turn first.
+/// The target of one of the two edges of a pc, if the edge exists and stays in the routine. The edge with the later target is followed
+/// first, so that unrelated instructions keep the order of the text.
 fn end_at(body: &Body, pc: u16, followed: u8) -> Option<u16>
     requires { pc < body.now.end }
     ensures { IfSome result (λ to. to < 4096) }
@@ -83,24 +83,24 @@ impl Order {
         })
     }
 
-    /// The place that has its turn.
+    /// The instruction at a position.
     pub(crate) fn place(&self, turn: u16) -> u16
         requires { turn < 4096 }
         ensures inside { result < 4096 }
         ensures value { result ≡ place_at self.now turn }
     {
-        // For what its law says.
+        // Recalls the lemma.
         self.places.lengths();
         self.places.at(turn).pc
     }
 
-    /// When the place has its turn.
+    /// The position of an instruction.
     pub(crate) fn turn(&self, pc: u16) -> u16
         requires { pc < 4096 }
         ensures inside { result < 4096 }
         ensures value { result ≡ turn_at self.now pc }
     {
-        // For what its law says.
+        // Recalls the lemma.
         self.turns.lengths();
         self.turns.at(pc).turn
     }
@@ -114,7 +114,7 @@ impl Order {
         self.turn(lead.to) <= self.turn(lead.edge.from)
     }
 
-    /// A way comes to a place, unless one did before.
+    /// Visits an instruction, unless it was visited before.
     fn come(&mut self, pc: u16)
         requires { pc < 4096 }
         ensures seen { StaySeen self.old self.new }
@@ -122,7 +122,7 @@ impl Order {
         ensures turns { self.new.turns ≡ self.old.turns }
         ensures left { self.new.left ≡ self.old.left }
     {
-        // For what its law says.
+        // Recalls the lemma.
         self.seen.lengths();
         if self.seen.at(pc) || MOST_INSTRS <= self.length {
             return;
@@ -142,7 +142,7 @@ impl Order {
         ensures place { self.new.left < 4096 → place_at self.new self.new.left ≡ pc }
         ensures within { (n : ℕ) → 0 < n → self.old.left ≤ n → TurnsWithin n self.old self.new }
     {
-        // For what their law says.
+        // Recalls the lemma.
         self.places.lengths();
         self.turns.lengths();
         self.length = self.length.saturating_sub(1);
@@ -153,7 +153,7 @@ impl Order {
         }
     }
 
-    /// The way is followed on along one more edge of its last place, or back where there is none; `false` where it has no place.
+    /// The way is followed on along one more edge of its last place, or back where there is none; `false` if it has no place.
     fn follow(&mut self, body: &Body) -> bool
         ensures ends { result ≡ false → self.old.length ≡ 0 }
         ensures seen { StaySeen self.old self.new }
@@ -191,7 +191,7 @@ impl Order {
         self.left = body.end - body.start;
         for pc in body.start..body.end {
             self.come(pc);
-            // Each place comes to the way once, and goes from it behind its two edges.
+            // Each instruction enters the path once, and leaves it after its two edges.
             for _ in 0..3 * MOST_INSTRS {
                 if !self.follow(body) {
                     break;

@@ -16,20 +16,20 @@ use geos_image::Row;
 /// times more, since 8 bounds and 4 pointers are given up, 4 slots lose a mark, and 6 pairs go.
 pub(crate) const PASSES: u32 = 4096 * 256;
 
-/// A place was weakened: so much is kept of the join.
+/// Weakens the row at a pc, and stores as much of the join as `kept` says.
 fn widen(body: &Body, kept: Kept, old: &Option<Row>, to: u16, known: &mut Known)
     requires { to < 4096 }
     ensures there { StaysKnown known.old known.new }
     ensures alike { AllComeAlike body.now.image.now body.now.r known.old → AllComeAlike body.now.image.now body.now.r known.new }
 {
-    // For what its law says.
+    // Recalls the lemma.
     known.lengths();
     if let (Some(old), Some(joined)) = (old, known.at(to)) {
         known.set(to, Some(widened(body, kept, old, &joined)));
     }
 }
 
-/// A row goes along an edge; what is weaker behind it waits.
+/// Propagates a row along an edge. If the row at the target becomes weaker, the target is added to the worklist.
 pub(crate) fn pass(
     body: &Body,
     lead: Lead,
@@ -54,7 +54,7 @@ pub(crate) fn pass(
     arrival
 }
 
-/// What is known at a pc of the routine goes along one edge of the instruction there, if it stays in the routine; `false` where it has
+/// What is known at a pc of the routine goes along one edge of the instruction there, if it stays in the routine; `false` if it has
 /// no join with what is known there.
 fn pass_from(body: &Body, pc: u16, branch: bool, waiting: &mut Waiting, known: &mut Known) -> bool
     ensures { StaysAlike body.now.image.now body.now.r known.old known.new result }
@@ -71,7 +71,7 @@ fn pass_from(body: &Body, pc: u16, branch: bool, waiting: &mut Waiting, known: &
     pass(body, lead, &row, waiting, known).has_joined()
 }
 
-/// Rows of a routine flow on from the places that wait, along all its edges until nothing new comes to any place; `false` where two
+/// Rows of a routine flow on from the places that wait, along all its edges until nothing new comes to any place; `false` if two
 /// have no join.
 pub(crate) fn flow_on(body: &Body, waiting: &mut Waiting, known: &mut Known) -> bool
     ensures { StaysAlike body.now.image.now body.now.r known.old known.new true }

@@ -63,7 +63,7 @@ fn wait_to_go_back(body: &Body, waiting: &mut Waiting)
     }
 }
 
-/// Rows of a routine flow on along the edges that lead back, and come down again; `false` where two have no join.
+/// Rows of a routine flow on along the edges that lead back, and come down again; `false` if two have no join.
 fn settle(body: &Body, tables: &mut Tables, known: &mut Known) -> bool
     ensures fit { result ≡ true → AllFit body.now.image.now body.now.r known.new }
     ensures stays { StaysBefore body.now.start known.old known.new }
@@ -83,8 +83,7 @@ fn settle(body: &Body, tables: &mut Tables, known: &mut Known) -> bool
     if waiting.has_widened() && !descend(body, from, flowing) {
         return false;
     }
-    // Rows that flowed till nothing new came fit along all edges, and still do when they have come
-    // down. That is not proved of the search: so each edge is looked at.
+    // At a fixed point the rows fit along all edges, also after narrowing. That is not proved of the search, so each edge is tested.
     if !all_fit(body, flowing) {
         return false;
     }
@@ -92,7 +91,7 @@ fn settle(body: &Body, tables: &mut Tables, known: &mut Known) -> bool
     true
 }
 
-/// Finds what is known in a routine wherever control reaches; `false` where two rows have no join, or do not come to hold.
+/// Finds what is known in a routine wherever control reaches; `false` if two rows have no join, or do not come to hold.
 fn search(body: &Body, tables: &mut Tables, known: &mut Known) -> bool
     ensures flows { FlowsAnew body.now.image.now body.now.r known.new result }
     ensures fit { result ≡ true → AllFit body.now.image.now body.now.r known.new }
@@ -113,7 +112,7 @@ fn search(body: &Body, tables: &mut Tables, known: &mut Known) -> bool
 fn complete(body: &Body, others: &Known, known: &mut Known)
     ensures { Keeps body.now.start body.now.end known.old known.old known.new }
 {
-    // For what its law says.
+    // Recalls the lemma.
     known.lengths();
     for pc in body.start..body.end {
         if known.get(pc).is_none() {
@@ -122,7 +121,7 @@ fn complete(body: &Body, others: &Known, known: &mut Known)
     }
 }
 
-/// Finds what is known at each instruction of a routine; `false` where two rows have no join, or those that flow do not come to hold.
+/// Finds what is known at each instruction of a routine; `false` if two rows have no join, or those that flow do not come to hold.
 fn find_rows_in(body: &Body, tables: &mut Tables, known: &mut Known) -> bool
     ensures flows { FlowsAnew body.now.image.now body.now.r known.new result }
     ensures fit { result ≡ true → FitWhereReached body.now.image.now body.now.r known.new }
@@ -145,8 +144,8 @@ fn find_rows_in(body: &Body, tables: &mut Tables, known: &mut Known) -> bool
     true
 }
 
-/// Finds what is known at each instruction of a routine: the weakest rows that hold, where others are not found; else answers a place
-/// where ways of control meet with slots that differ in more than marks.
+/// Finds the row at each instruction of a routine, and falls back to the weakest rows that hold if the stronger ones are not found.
+/// Otherwise returns an instruction where paths join with slots that differ in more than marks.
 fn find_some_rows(
     alloc: Global,
     body: &Body,
@@ -171,7 +170,7 @@ pub struct KnownRows {
     pub known: Known,
     /// How many these are.
     pub routines: u16,
-    /// Where ways meet so in that one; `None` where there is none.
+    /// Where paths of this routine join with different slots; `None` if nowhere.
     pub apart: Option<Apart>,
 }
 

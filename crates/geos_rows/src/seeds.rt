@@ -12,7 +12,7 @@ pub(crate) fn seed_entry(body: &Body, known: &mut Known)
 {
     known.fill_from(body.start, None);
     known.set(body.start, Some(body.image.routine(body.r).entry));
-    // For what its law says.
+    // Recalls the lemma.
     known.lengths();
 }
 
@@ -20,7 +20,7 @@ pub(crate) fn seed_entry(body: &Body, known: &mut Known)
 pub(crate) fn copy_rows(body: &Body, from: &Known, known: &mut Known)
     ensures { Copies body.now.start body.now.end from.now known.old known.new }
 {
-    // For what its law says.
+    // Recalls the lemma.
     known.lengths();
     for pc in body.start..body.end {
         known.set(pc, from.at(pc));

@@ -11,7 +11,7 @@ use geos_code::{Body, Known, edge_in};
 use geos_image::Row;
 use std::alloc::{AllocError, Global};
 
-/// How often places go along their edges at most: enough for a word that grows by 1 in each turn of a loop of 32 instructions.
+/// The most propagations: enough for a word that grows by 1 in each iteration of a loop of 32 instructions.
 const LOOKS: u32 = 1 << 21;
 
 /// Rows that no rows that hold are stronger than.
@@ -28,7 +28,7 @@ fn go(body: &Body, rows: &mut Known, waiting: &mut Waiting, pc: u16, branch: boo
     requires least { AreAtMostAny body.now.image.now body.now.r rows.old }
     ensures { AreAtMostAny body.now.image.now body.now.r rows.new }
 {
-    // For what its law says.
+    // Recalls the lemma.
     rows.lengths();
     let Some(row) = rows.at(pc) else {
         return;
@@ -41,7 +41,7 @@ fn go(body: &Body, rows: &mut Known, waiting: &mut Waiting, pc: u16, branch: boo
     }
 }
 
-/// Rows go on from the places that wait, until nothing new comes to any place, or it takes too long.
+/// Rows continue from the places that wait, until nothing new comes to any place, or it takes too long.
 fn go_all(body: &Body, rows: &mut Known, waiting: &mut Waiting)
     requires { AreAtMostAny body.now.image.now body.now.r rows.old }
     ensures { AreAtMostAny body.now.image.now body.now.r rows.new }

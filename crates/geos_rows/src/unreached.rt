@@ -28,7 +28,7 @@ fn all_known(body: &Body, known: &Known) -> bool
     true
 }
 
-/// The first slot that is held, with as many bytes as can be.
+/// A pointer into the first locked slot, with the greatest number of bytes.
 fn first_held(slots: &[SlotState; 4]) -> Option<Pointer>
     ensures some { IfSome result (IsFirstHeld slots.now) }
     ensures none { IfNone result ((k : ℕ) → k < 4 → slice_index_or slots.now k Empty ≡ Empty) }
@@ -47,7 +47,7 @@ fn first_held(slots: &[SlotState; 4]) -> Option<Pointer>
     None
 }
 
-/// A pointer as it is wanted, with as many bytes as can be; any, where none is wanted.
+/// The required pointer with the greatest number of bytes; `any` if none is required.
 fn strongest_pointer(wanted: Option<Pointer>, any: Option<Pointer>) -> Option<Pointer>
     ensures value { MatchOption wanted (result ≡ any) (λ pointer. result ≡ Some (record { slot = pointer.slot; least = 65535 })) }
     ensures fits { pointer_fits result wanted ≡ true }
@@ -61,7 +61,7 @@ fn strongest_pointer(wanted: Option<Pointer>, any: Option<Pointer>) -> Option<Po
     }
 }
 
-/// Pointers as they are wanted.
+/// The same for each of the four pointers.
 fn strongest_pointers(wanted: &[Option<Pointer>; 4], any: Option<Pointer>) -> [Option<Pointer>; 4]
     ensures { all2 pointer_fits result wanted.now ≡ true }
 {
@@ -74,12 +74,12 @@ fn strongest_pointers(wanted: &[Option<Pointer>; 4], any: Option<Pointer>) -> [O
     ]
 }
 
-/// The strongest row that fits another, but for marks.
+/// The strongest row that implies another, except for marks.
 fn strongest(row: &Row) -> Row
     ensures slots { result.slots ≡ row.now.slots }
     ensures fits { fits result row.now ≡ true }
 {
-    // For what its law says.
+    // Recalls the lemma.
     shape(row);
     let any = first_held(&row.slots);
     Row {
@@ -90,7 +90,7 @@ fn strongest(row: &Row) -> Row
     }
 }
 
-/// The slots before an instruction, where those behind it are such.
+/// The slots before an instruction, from those after it.
 fn slots_before(i: &Instr, behind: &[SlotState; 4]) -> [SlotState; 4]
     requires { FieldsFit i.now.opcode i.now }
     ensures { AreBefore (uses_of i.now.opcode).slot i.now.a behind.now result }
@@ -113,8 +113,8 @@ fn slots_before(i: &Instr, behind: &[SlotState; 4]) -> [SlotState; 4]
     slots
 }
 
-/// What an instruction leads on to: the row of the routine that is called, that of the place behind
-/// it as far as it is known, or that of the target; else the exit row.
+/// The row that an instruction has to establish: the entry row of the called routine, the row of the next instruction or of the target,
+/// if it is known, and otherwise the exit row.
 fn wanted_behind(body: &Body, pc: u16, from: &Known) -> Row
     requires { pc < body.now.end }
     ensures { IsWantedBehind body.now.image.now body.now.r pc from.now result }
@@ -138,11 +138,11 @@ fn wanted_behind(body: &Body, pc: u16, from: &Known) -> Row
     body.image.routine(body.r).exit
 }
 
-/// The strongest rows, from behind, at places where nothing is known.
+/// Finds the strongest rows backwards, at instructions without a row.
 fn guess(body: &Body, known: &Known, from: &mut Known)
     ensures { IsGuess body.now.image.now body.now.r known.now from.new }
 {
-    // For what its law says.
+    // Recalls the lemma.
     from.lengths();
     for pc in body.start..body.end {
         from.set(pc, known.at(pc));

@@ -20,7 +20,7 @@ impl Times {
     const NONE: Times = Times { gone: 0, back: 0 };
 }
 
-/// So many turns are looked at together.
+/// The number of positions in a group of the worklist.
 const GROUP: u16 = 64;
 
 /// The places that have yet to go along their edges, each once, in the order in which rows flow.
@@ -29,14 +29,14 @@ pub(crate) struct Waiting {
     order: Order,
     /// The routine whose order it is.
     routine: Option<u16>,
-    /// Whether the place of each turn waits.
+    /// Whether the instruction at each position is in the worklist.
     waits: Table<bool>,
     /// Whether some place of each group of turns may wait.
     some: [bool; 64],
     /// Whose turn comes next.
     turn: u16,
     times: Table<Times>,
-    /// Whether less than a join was kept of some place.
+    /// Whether some row was widened.
     widened: bool,
     ghost inside: { turn < 4096 },
 }
@@ -72,7 +72,7 @@ impl Waiting {
             self.routine = Some(body.r);
         }
         self.waits.fill_from(0, false);
-        // For what its law says.
+        // Recalls the lemma.
         self.waits.lengths();
         self.some = [false; 64];
         self.turn = 0;
@@ -87,7 +87,7 @@ impl Waiting {
         ensures others { (at : ℕ) → Waits self.old at → Waits self.new at }
         ensures widened { self.new.widened ≡ self.old.widened }
     {
-        // For what its law says.
+        // Recalls the lemma.
         self.waits.lengths();
         let turn = self.order.turn(pc);
         self.waits.set(turn, true);
@@ -145,7 +145,7 @@ impl Waiting {
         Some(pc)
     }
 
-    /// The edge has weakened the place where it leads; how much is to be kept of the row there.
+    /// Adds the target of an edge that weakened its row to the worklist. Returns how much of the join is to be stored there.
     pub(crate) fn weaken(&mut self, lead: Lead) -> Kept
         requires from { lead.edge.from < 4096 }
         requires to { lead.to < 4096 }
@@ -161,7 +161,7 @@ impl Waiting {
         kept
     }
 
-    /// Whether less than a join was kept of some place, since it had been weakened too often.
+    /// Whether some row was widened, since it had been weakened too often.
     pub(crate) fn has_widened(&self) -> bool
         ensures { result ≡ self.now.widened }
     {

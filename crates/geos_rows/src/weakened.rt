@@ -67,9 +67,9 @@ fn all_as_good(body: &Body, found: &Known, weaker: &Known) -> bool
     true
 }
 
-/// Finds the rows of the places that nothing reaches, and makes `weaker` the rows of a routine where those have flowed on into the
-/// places that are reached. Whether there are such places, and these rows fit along all edges, and are as good at each place that is
-/// reached: else those that were found are to stay.
+/// Finds rows for unreachable instructions, and stores in `weaker` the rows of the routine after these have been propagated into reachable
+/// ones. Returns whether there are unreachable instructions, and the rows in `weaker` fit along all edges and are as good at each
+/// reachable instruction. Otherwise the caller has to use the rows that it has.
 pub(crate) fn weaken(
     body: &Body,
     found: &Known,

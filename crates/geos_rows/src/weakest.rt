@@ -56,15 +56,15 @@ fn weakest_of(coming: &Option<Coming>) -> Option<Row>
 fn fill(body: &Body, comings: &Comings, known: &mut Known)
     ensures { Weakens body.now.start body.now.end comings.now known.old known.new }
 {
-    // For what its law says.
+    // Recalls the lemma.
     known.lengths();
     for pc in body.start..body.end {
         known.set(pc, weakest_of(&comings.at(pc)));
     }
 }
 
-/// Makes the weakest rows that hold known in a routine; else answers a place where ways of control meet with slots that differ in more
-/// than marks.
+/// Finds the weakest rows that hold in a routine. Otherwise returns an instruction where paths join with slots that differ in more than
+/// marks.
 pub(crate) fn find_weakest(
     alloc: Global,
     body: &Body,

@@ -11,7 +11,7 @@ use geos_image::{Opcode, Row};
 /// So often a row is joined with what an edge that leads back says, as it is.
 const JOINED: u8 = 16;
 
-/// So often, from then on, a bound that changes goes on to a constant of the routine.
+/// After so many changes, a bound is widened to a constant of the routine.
 const STEPPED: u8 = 8;
 
 /// So often a place goes along its edges at most before what changes there is given up, whichever edges weaken it.
@@ -23,20 +23,20 @@ const MOST_BYTE: u16 = 255;
 /// The greatest number of a refusal: another one.
 const MOST_REFUSAL: u16 = 15;
 
-/// How much is kept of a row that was weakened.
+/// How much of the join a weakened row retains.
 #[derive(Clone, Copy)]
 pub(crate) enum Kept {
     /// The join, as it is.
     Join,
-    /// The join, but for bounds that change, each of which goes on to a constant of the routine, and pointers that change, which go.
+    /// The join, with each changed bound widened to a constant of the routine, and without changed pointers.
     Constants,
     /// The join without the bounds and the pointers that change.
     Unchanged,
 }
 
 impl Kept {
-    /// How much is kept of the row at a place that went along its edges so often, and is weakened now by an edge that leads back or
-    /// not, where such edges have weakened it so many times.
+    /// How much a row retains. `gone` is how often its instruction was propagated, `leads_back` whether a back edge weakens the row now,
+    /// and `times` how often such edges have weakened it.
     pub(crate) fn after(gone: u8, leads_back: bool, times: u8) -> Kept
         ensures join { gone < 100 → (leads_back ≡ false) ⊎ (times ≤ 16) → result ≡ Join }
         ensures constants { gone < 100 → leads_back ≡ true → 16 < times → times ≤ 24 → result ≡ Constants }
@@ -51,7 +51,7 @@ impl Kept {
         }
     }
 
-    /// Whether the join is kept as it is.
+    /// Whether the whole join is stored.
     pub(crate) fn is_join(self) -> bool
         ensures { result ≡ is_join self }
     {
@@ -72,7 +72,7 @@ fn constant_at(body: &Body, pc: u16) -> Option<u16>
     }
 }
 
-/// The less of two constants, where the second one is not below the bound; else the first.
+/// The lesser of two constants, if the second is not below the bound; otherwise the first.
 fn nearer(bound: u16, next: u16, constant: u16) -> u16
     ensures above { bound ≤ next → bound ≤ result }
     ensures less { result ≤ next }

@@ -50,7 +50,7 @@ fn is_row_word(word: &[u8]) -> bool
     word == b"in".as_slice() || word == b"out".as_slice()
 }
 
-/// The name in front of the words behind `routine`.
+/// The name before the words after `routine`.
 fn name_in_front(operands: &[u8]) -> Option<Name>
     ensures { result ≡ name_in_front (words operands.now) }
 {
@@ -83,7 +83,7 @@ impl Declarations {
         Ok(())
     }
 
-    /// Declares the labels in front of a line; the first word behind them with what stands behind it.
+    /// Declares the labels of a line. Returns the first word after them, and the rest of the line.
     fn add_labels<'a>(
         &mut self,
         line: usize,

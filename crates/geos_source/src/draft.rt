@@ -52,7 +52,7 @@ fn is_full(code: &[Instr]) -> Option<Why>
 }
 
 impl Draft {
-    /// Nothing is said yet; there is room for so many instructions.
+    /// An empty draft, with room for so many instructions.
     pub(crate) fn new(alloc: Global, instrs: u16) -> Result<Draft, AllocError>
         ensures said { IfOk result (λ draft. draft_in draft ≡ blank) }
         ensures lines { IfOk result (λ draft. draft.lines.items ≡ []) }

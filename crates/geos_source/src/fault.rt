@@ -8,7 +8,7 @@ use std::fmt;
 /// Why a line is faulty.
 #[derive(Clone, Copy, Debug)]
 pub enum Why {
-    /// The first word behind the labels is none that a line can begin with.
+    /// The first word after the labels is none that a line can begin with.
     UnknownWord,
     /// Operands are too few, too many, or of another form.
     WrongOperands,
@@ -20,7 +20,7 @@ pub enum Why {
     UsedTwice,
     /// The text is too long, or its routines or instructions are too many.
     TooMany,
-    /// The line stands where it may not stand, or something is missing behind it.
+    /// The line is not allowed here, or something is missing after it.
     OutOfPlace,
 }
 

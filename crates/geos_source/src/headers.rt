@@ -30,7 +30,7 @@ fn named(name: Option<Name>, public: bool, number: &[u8]) -> Result<Routine, Why
     }
 }
 
-/// `budget N`, and nothing behind it.
+/// `budget N`, and nothing after it.
 fn budgeted(name: Option<Name>, public: bool, rest: &[u8]) -> Result<Routine, Why>
     ensures { result ≡ budgeted name public (words rest.now) }
 {
@@ -60,7 +60,7 @@ fn published(name: Option<Name>, rest: &[u8]) -> Result<Routine, Why>
     }
 }
 
-/// The routine that the words behind `routine` begin: a name, `public` or not, `budget` and a
+/// The routine that the words after `routine` begin: a name, `public` or not, `budget` and a
 /// number.
 #[tactic(auto, unfolding(crate::specs::Headers::header))]
 pub(crate) fn header(operands: &[u8]) -> Result<Routine, Why>

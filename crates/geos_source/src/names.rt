@@ -23,7 +23,7 @@ fn is_name(word: &[u8]) -> bool
     }
 }
 
-/// The name that a word writes; `None` where it writes none.
+/// The name that a word writes; `None` if it writes none.
 #[tactic(auto, unfolding(crate::specs::Names::name_of))]
 pub fn name_of(word: &[u8]) -> Option<Name>
     ensures { result ≡ name_of word.now }
@@ -36,7 +36,7 @@ pub fn name_of(word: &[u8]) -> Option<Name>
     Some(name)
 }
 
-/// The name of a label, which a `:` follows; `None` where the word is no label.
+/// The name of a label, which a `:` follows; `None` if the word is no label.
 #[tactic(auto, unfolding(crate::specs::Names::label_of))]
 pub fn label_of(word: &[u8]) -> Option<Name>
     ensures { result ≡ label_of word.now }
@@ -104,8 +104,8 @@ impl Table {
         }
     }
 
-    /// What the name that a word writes stands for. `WrongOperands` where the word is no name,
-    /// `Undefined` where the name is not defined.
+    /// What the name that a word writes stands for. `WrongOperands` if the word is no name,
+    /// `Undefined` if the name is not defined.
     pub(crate) fn resolve(&self, word: &[u8]) -> Result<u16, Why>
         ensures { result ≡ resolved (table_of self.now) word.now }
     {

@@ -185,8 +185,8 @@ fn instr_of(names: &Names, opcode: Opcode, operands: &[u8]) -> Result<Instr, Why
     }
 }
 
-/// The instruction that a word and its operands write. `UnknownWord` where the word is no
-/// opcode's; else the least fault of the operands, which is `WrongOperands` where they are too
+/// The instruction that a word and its operands write. `UnknownWord` if the word is no
+/// opcode's; otherwise the least fault of the operands, which is `WrongOperands` if they are too
 /// few or too many.
 #[tactic(auto, unfolding(crate::specs::Operands::instruction))]
 pub(crate) fn instruction(names: &Names, word: &[u8], operands: &[u8]) -> Result<Instr, Why>

@@ -70,11 +70,11 @@ fn first_fault(text: &[u8], twice: Option<BadLine>, progress: Progress) -> Optio
 }
 
 /// The code of an assembly text: its routines, with their rows at entry and exit, and their
-/// instructions, each with its line. `BadLine` exactly where the text has a fault, and names the first one: the
+/// instructions, each with its line. `BadLine` exactly if the text has a fault, and names the first one: the
 /// least line, and there the least number. `Memory` may come at any text.
 pub fn parse(alloc: Global, text: &[u8]) -> Result<Parsed, ParseError>
     ensures parsed { IfOk result (λ parsed. code_of text.now ≡ Ok (code_in parsed)) }
-    // The code may stand in an image of version 2: names are fit for one and stand for what there is, each routine has
+    // An image of version 2 may have the code: its names are legal, each names something that exists, each routine has
     // instructions, and there are no more than an image may have.
     ensures formed { IfOk result (λ parsed. is_formed true (bare_whole (code_in parsed)) ≡ true) }
     ensures lines { IfOk result (λ parsed. parsed.lines.items ≡ instr_lines text.now) }

@@ -18,19 +18,19 @@ pub struct TextRoutine {
     pub routine: Routine,
 }
 
-/// Where the next line stands.
+/// The place of the next line in the text.
 #[derive(Clone, Copy)]
 pub(crate) enum Part {
     /// Before the first routine.
     Outside,
-    /// Behind the line that begins a routine, which has no instruction yet: the number of this
+    /// After the line that begins a routine, which has no instruction yet: the number of this
     /// line, and whether lines `in` and `out` have come.
     Head {
         line: usize,
         has_in: bool,
         has_out: bool,
     },
-    /// Behind an instruction of a routine.
+    /// After an instruction of a routine.
     Body,
 }
 
@@ -70,7 +70,7 @@ impl Part {
         }
     }
 
-    /// A fault where no line `in` may stand.
+    /// The fault of a line `in` here, if it is not allowed.
     fn misplaced_in(self) -> Option<Why>
         ensures { result ≡ misplaced_in self }
     {
@@ -80,7 +80,7 @@ impl Part {
         }
     }
 
-    /// A fault where no line `out` may stand.
+    /// The fault of a line `out` here, if it is not allowed.
     fn misplaced_out(self) -> Option<Why>
         ensures { result ≡ misplaced_out self }
     {
@@ -116,7 +116,7 @@ impl Part {
         }
     }
 
-    /// A fault where no instruction may stand.
+    /// The fault of an instruction here, if it is not allowed.
     fn outside(self) -> Option<Why>
         ensures { result ≡ outside self }
     {
@@ -211,7 +211,7 @@ fn counted(why: Option<Why>, current: Option<TextRoutine>) -> Option<TextRoutine
 }
 
 impl Progress {
-    /// Nothing is said.
+    /// Before the first line.
     pub(crate) fn new() -> Progress
         ensures { result ≡ blank.progress }
     {
@@ -294,7 +294,7 @@ impl Progress {
         }
     }
 
-    /// The fault of an instruction that stands here, where the code may be full.
+    /// The fault of an instruction here; the code may be full.
     pub(crate) fn why_of_instr(self, read: Result<Instr, Why>, full: Option<Why>) -> Option<Why>
         ensures { result ≡ least (why_of read) (least full (outside self.part)) }
     {

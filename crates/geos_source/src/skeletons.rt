@@ -41,7 +41,7 @@ fn points_of(alloc: Global, instrs: &[Instr]) -> Result<Vec<Point>, AllocError>
 }
 
 /// The image of version 2 of the code of a text, with the open row at its key places, and no potential: what rows and
-/// potentials are to be found for. `AllocError` where the allocator refuses memory.
+/// potentials are to be found for. `AllocError` if the allocator refuses memory.
 pub fn skeleton(alloc: Global, parsed: &Parsed) -> Result<Image, AllocError>
     requires { is_formed true (bare_whole (code_in parsed.now)) ≡ true }
     ensures { IfOk result (λ image. image ≡ skeleton (code_in parsed.now)) }

@@ -94,7 +94,7 @@ impl Faults {
     }
 }
 
-/// What the lines of a text declare, but for its faults, and the lines that use a name twice.
+/// What the lines of a text declare, except for its faults, and the lines that use a name twice.
 fn declare_and_note(alloc: Global, text: &[u8]) -> Result<(Declarations, Faults), AllocError>
     ensures noted { IfOk result (λ r. noted (fault_in r.1) (declared_of r.0) ≡ declared (lines text.now)) }
     ensures settled { IfOk result (λ r. r.0.fault ≡ None) }
@@ -237,8 +237,8 @@ impl Tally {
     }
 }
 
-/// The faulty lines of a text, each with its fault of the lowest number. There is one exactly where `parse` answers
-/// `BadLine`, and the first one is that fault. `AllocError` where the allocator refuses memory.
+/// The faulty lines of a text, each with its fault of the lowest number. There is one exactly if `parse` answers
+/// `BadLine`, and the first one is that fault. `AllocError` if the allocator refuses memory.
 pub fn faults_of(alloc: Global, text: &[u8]) -> Result<Faults, AllocError>
     ensures { IfOk result (λ faults. fault_in faults ≡ fault_of text.now) }
 {

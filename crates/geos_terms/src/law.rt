@@ -1,4 +1,4 @@
-//! The law of the test of heaps.
+//! The lemma on the test of heaps.
 
 ghost use Rattle.geos_terms.specs.HeapTest.{HeapTestIsExact};
 

@@ -16,7 +16,7 @@ pub enum Refusal {
     /// No chunk of the block has this handle.
     #[error("no chunk has this handle")]
     BadChunk,
-    /// The chunk, or the element of an array, has fewer bytes than are wanted.
+    /// The chunk, or the element of an array, has fewer bytes than are required.
     #[error("the chunk or element is too short")]
     Short,
     /// The region has no room for a block that is made or grows, or for a block of the VM file that
@@ -39,7 +39,7 @@ pub enum Refusal {
     /// The array has no element of this index.
     #[error("no element has this index")]
     BadElement,
-    /// 1,024 words are put out.
+    /// 1,024 words were output already.
     #[error("no more words can be put out")]
     Full,
     /// The device failed.
@@ -56,7 +56,7 @@ pub enum Refusal {
     /// an item other than 0 is to be the map item where the group is 0.
     #[error("out of range")]
     Range,
-    /// The user ID of groups is given, or a group is named, where a block is wanted.
+    /// The user ID of groups is given, or a group is named, where a block is required.
     #[error("the user ID is reserved for groups")]
     Reserved,
 }

@@ -18,7 +18,7 @@ pub struct Asked {
     pub coefficients: [u32; 4],
 }
 
-/// Whether each coefficient that is asked is left.
+/// Whether each required coefficient is left.
 fn coefficients_pay(asked: &[u32; 4], left: &[u32; 4]) -> bool
     ensures { result ≡ all2 nat_le asked.now left.now }
 {
@@ -106,8 +106,8 @@ fn asks_calling(budget: u32, q: &Potential) -> Asked
     }
 }
 
-/// What the edge to the next instruction asks, where `row` is known before it and `next` is
-/// the potential there. A call also wants no coefficient there on a counter that the routine touches.
+/// What the edge to the next instruction requires if `row` is known before it and `next` is the potential there. A call also requires
+/// that no counter that the routine touches has a coefficient there.
 pub fn asked_along(image: &Image, instr: &Instr, row: &Row, next: &Potential) -> Asked
     requires fields { FieldsFit instr.now.opcode instr.now }
     requires callee { CalleeFits (length image.now.routines) instr.now }

@@ -46,7 +46,7 @@ fn computed_bound(i: &Instr, row: &Row) -> Option<u16>
     }
 }
 
-/// Bounds the word that is the instruction's result, where it goes on to the next instruction.
+/// Bounds the word that is the instruction's result, where it continues to the next instruction.
 #[inline(always)]
 pub(crate) fn bound_result(i: &Instr, row: &mut Row)
     requires { FieldsFit i.now.opcode i.now }

@@ -1,4 +1,4 @@
-//! Where control goes after an instruction, and what is known there.
+//! The edges of an instruction, and what is known at their ends.
 
 ghost use Rattle.std.specs.Prelude.{◌≡◌, ◌<◌, List, Option, length, true, false};
 ghost use Rattle.geos_image.specs.Fields.{FieldsFit, CalleeFits};
@@ -20,8 +20,7 @@ use crate::uses::uses_at;
 use geos_image::{Image, Instr, Opcode, Row, branches, falls_through};
 use geos_opcodes::{PointerUse, SlotUse, Uses};
 
-/// Whether the instruction has the edge: to its target where `branch` says so, else to the next
-/// instruction.
+/// Whether the instruction has the edge: to its target if `branch`, otherwise to the next instruction.
 pub fn has_edge(instr: &Instr, branch: bool) -> bool
     ensures { result ≡ has_edge instr.now branch }
 {
@@ -61,7 +60,7 @@ fn apply_uses(i: &Instr, uses: Uses, row: &mut Row)
     }
 }
 
-/// Makes the row what is known where control goes on to the next instruction; after a call it
+/// Makes the row what is known where control continues to the next instruction; after a call it
 /// is the exit row of the routine that was called.
 // In place, with what it calls, so that the uses stay in registers.
 #[inline(always)]
@@ -92,7 +91,7 @@ fn sets_pointer(pointer: PointerUse) -> bool
     }
 }
 
-/// Whether the instruction changes bounds alone, where it goes on to the next one.
+/// Whether the instruction changes only bounds, if it continues to the next one.
 pub(crate) fn changes_bounds_alone(i: &Instr, uses: Uses) -> bool
     requires { uses ≡ uses_of i.now.opcode }
     ensures value { result ≡ changes_bounds_alone i.now.opcode }
@@ -116,9 +115,8 @@ pub(crate) fn go_to_target(i: &Instr, uses: Uses, row: &mut Row)
     }
 }
 
-/// What is known at the end of an edge of the instruction at `pc`, where `row` is known before
-/// it: of the edge to its target where `branch` says so, else of the edge to the next
-/// instruction.
+/// What is known at the end of an edge of the instruction at `pc`, if `row` is known before it: of the edge to its target if `branch`,
+/// otherwise of the edge to the next instruction.
 pub fn after(image: &Image, pc: u16, row: &Row, branch: bool) -> Row
     requires there { pc < length image.now.points }
     requires edge { HasEdge image.now pc branch }

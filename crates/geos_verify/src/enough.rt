@@ -70,7 +70,7 @@ pub fn pointer_fits(pointer: Option<Pointer>, wanted: Option<Pointer>) -> bool
     }
 }
 
-/// The same, where mostly nothing is wanted.
+/// The same, where mostly nothing is required.
 #[inline(always)]
 fn leads_on(pointer: &Option<Pointer>, wanted: &Option<Pointer>) -> bool
     ensures { result ≡ pointer_fits pointer.now wanted.now }
@@ -90,7 +90,7 @@ fn pointers_fit(r: &[Option<Pointer>; 4], s: &[Option<Pointer>; 4]) -> bool
         && leads_on(&r[3], &s[3])
 }
 
-/// Whether each pair that is wanted is known.
+/// Whether each pair that is required is known.
 fn pairs_fit(r: &[bool; 6], s: &[bool; 6]) -> bool
     ensures { result ≡ all2 pair_fits r.now s.now }
 {
@@ -109,7 +109,7 @@ pub fn fits(row: &Row, wanted: &Row) -> bool
         && pairs_fit(&row.pairs, &wanted.pairs)
 }
 
-/// Whether nothing is held.
+/// Whether the slot is empty.
 pub fn is_empty(slot: SlotState) -> bool
     ensures { result ≡ is_empty slot }
 {

@@ -42,9 +42,8 @@ pub fn bytes_in(width: Width) -> u16
     }
 }
 
-/// How many bytes must stand behind the pointer of a read or a write: up to the end of what it
-/// reads or writes at the offset, or at the greatest index that the row knows of; 0 where the
-/// index is tested.
+/// How many bytes the pointer of a read or a write must have: up to the end of what the instruction reads or writes at the offset, or at
+/// the greatest index that the row allows; 0 if the index is tested.
 pub fn reach(instr: &Instr, width: Width, offset: Offset, row: &Row) -> u32
     requires { OffsetFits offset instr.now }
     ensures { result ≡ reach instr.now width offset row.now }
@@ -56,7 +55,7 @@ pub fn reach(instr: &Instr, width: Width, offset: Offset, row: &Row) -> u32
     }
 }
 
-/// How many bytes the row says that there are behind a pointer, at least.
+/// How many bytes the row says that there are after a pointer, at least.
 pub fn least_at(row: &Row, index: u8) -> u16
     ensures { result ≡ least_at row.now index }
 {
@@ -136,7 +135,7 @@ pub(crate) fn changes_unmarked(i: &Instr, uses: Uses, row: &Row) -> bool
     writes_unmarked(i, uses.pointer, row) || moves_unmarked(i, uses.slot, row)
 }
 
-/// Whether a block is locked into a slot that is held.
+/// Whether the instruction locks a block into a slot that is not empty.
 #[tactic(auto, unfolding(crate::specs::Rules::locks_into_held))]
 pub(crate) fn locks_into_held(i: &Instr, slot: SlotUse, row: &Row) -> bool
     requires { slot ≡ (uses_of i.now.opcode).slot }
@@ -148,13 +147,13 @@ pub(crate) fn locks_into_held(i: &Instr, slot: SlotUse, row: &Row) -> bool
     }
 }
 
-/// Whether a slot that must be held is empty or of another kind, or one that is unlocked is borrowed.
+/// Whether a slot that must hold a block is empty or of another kind, or the instruction unlocks a borrowed one.
 #[tactic(auto, unfolding(crate::specs::Rules::wrong_slot))]
 pub(crate) fn wrong_slot(i: &Instr, slot: SlotUse, row: &Row) -> bool
     requires { slot ≡ (uses_of i.now.opcode).slot }
     ensures { result ≡ wrong_slot i.now row.now }
 {
-    // The slot is looked up in the arms: most instructions name none.
+    // The arms read the slot: most instructions name none.
     match slot {
         SlotUse::Unlocks(kind) => {
             let state = slot_state(row, i.a);

@@ -19,13 +19,13 @@ pub struct Place {
     pub potential: Potential,
 }
 
-/// A law: a row has four slots.
+/// Lemma: a row has four slots.
 fn has_four(slots: &[SlotState; 4])
     ensures { length slots.now ≡ 4 }
 {}
 
-/// Makes the row, which is known at `pc`, what is known behind the instruction there. Where it answers true, the row names no empty slot
-/// if it named none before and the instruction uses slots as it may. Behind a CALL it answers false: an exit row may name any.
+/// Changes the row at `pc` into the row after the instruction there. If it returns true, the row names no empty slot, provided that it
+/// named none before and the instruction uses slots as it may. After a CALL it returns false: an exit row may name any slot.
 fn go_behind(image: &Image, pc: u16, row: &mut Row) -> bool
     requires there { pc < length image.now.points }
     requires edge { HasEdge image.now pc false }
@@ -38,8 +38,8 @@ fn go_behind(image: &Image, pc: u16, row: &mut Row) -> bool
     !calls(i.opcode)
 }
 
-/// Makes the row, which is known at `pc`, the one that is given behind it, or else what is known there. Where it answers true, the row
-/// names no empty slot, as above. Of a row that is given it answers false.
+/// Changes the row at `pc` into the one that the image gives after it, or otherwise into what is known there. If it returns true, the row
+/// names no empty slot, as above. It returns false for a row that the image gives.
 fn take_given(image: &Image, pc: u16, given: &Option<Row>, row: &mut Row) -> bool
     requires there { pc < length image.now.points }
     requires edge { given.now ≡ None → HasEdge image.now pc false }
@@ -55,9 +55,9 @@ fn take_given(image: &Image, pc: u16, given: &Option<Row>, row: &mut Row) -> boo
     }
 }
 
-/// Makes the row, which is known at `pc`, the one that is known at the place behind it: the row that the image gives
-/// there, or else what is known behind the instruction. Behind the last place it may be any row. Where it answers true, the row names no
-/// empty slot if it named none before and the instruction uses slots as it may.
+/// Changes the row at `pc` into the row of the next instruction: the row that the image gives there, or otherwise what is known after the
+/// instruction. After the last instruction it may be any row. If it returns true, the row names no empty slot, provided that it named none
+/// before and the instruction uses slots as it may.
 pub(crate) fn go_on(image: &Image, pc: u16, row: &mut Row) -> bool
     requires there { pc < length image.now.points }
     requires here { RowAt image.now pc row.old }
@@ -76,7 +76,7 @@ pub(crate) fn go_on(image: &Image, pc: u16, row: &mut Row) -> bool
     take_given(image, pc, image.given(next), row)
 }
 
-/// What is known at the place behind `pc`, where `row` is known at `pc`.
+/// What is known at the place after `pc`, where `row` is known at `pc`.
 pub fn row_next(image: &Image, pc: u16, row: &Row) -> Row
     requires there { pc < length image.now.points }
     requires here { RowAt image.now pc row.now }

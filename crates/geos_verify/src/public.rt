@@ -43,8 +43,8 @@ fn may_all_be_one(slots: &[SlotState; 4], pairs: &[bool; 6]) -> bool
     first & last
 }
 
-/// Whether each caller from outside can meet the row: no block is held but borrowed ones, which may all be one, and each
-/// pointer is stale.
+/// Whether each caller from outside can establish the row: only borrowed blocks are in slots, which may all be one block, and each pointer
+/// is stale.
 pub(crate) fn may_enter(row: &Row) -> bool
     ensures { result ≡ may_enter row.now }
 {

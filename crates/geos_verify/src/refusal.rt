@@ -83,7 +83,7 @@ fn exit_misfits(routine: &Routine, i: &Instr, row: &Row) -> bool
     returns(i.opcode) && !fits(row, &routine.exit)
 }
 
-/// Whether the row where control goes on does not fit what is known there. It does where no row is given.
+/// Whether the row of the next instruction does not follow from what is known there. It follows if the image gives no row.
 #[tactic(auto, unfolding(crate::specs::Rules::misfits_at))]
 fn misfits_along(image: &Image, pc: u16, i: &Instr, uses: Uses, row: &Row) -> bool
     requires uses { uses ≡ uses_of i.now.opcode }
@@ -96,7 +96,7 @@ fn misfits_along(image: &Image, pc: u16, i: &Instr, uses: Uses, row: &Row) -> bo
     requires known { RowAt image.now pc row.now }
     ensures { result ≡ misfits_at image.now (pc + 1) (row_along image.now i.now i.now.opcode row.now) }
 {
-    // Where the row that is given here is given there too, the rest of it fits itself.
+    // If the image gives the same row here and there, the rest of the row implies itself.
     if image.repeats(pc) && changes_bounds_alone(i, uses) {
         return !keeps_bounds(i, row);
     }

@@ -53,8 +53,8 @@ fn note_refusals(rules: &mut Refusals, body: &Body)
     }
 }
 
-/// For each pc of an image the lowest rule that refuses there, whatever is refused before it: one pass over each routine,
-/// behind as many looks at each instruction as there are routines.
+/// For each pc of an image, the lowest rule that refuses there, whatever is refused before it. It visits each instruction once for each
+/// routine, and then passes each routine once.
 pub fn refused_places(image: &Image) -> Refusals
     ensures { AreRefusals image.now result }
 {

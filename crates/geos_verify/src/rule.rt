@@ -10,9 +10,9 @@ pub enum Rule {
     LeavesRoutine = 1,
     /// A pointer of the row leads into an empty slot.
     NamesEmptySlot = 2,
-    /// The entry row does not fit the first row, or a public routine's entry or exit row has a pointer that is not stale
-    /// or a slot held that is not borrowed; or the exit row has not what was borrowed, or the entry row claims that two
-    /// borrowed blocks differ, or that one is marked.
+    /// The entry row does not imply the first row. Or a public routine's entry or exit row has a pointer that is not stale, or a slot that
+    /// is neither empty nor borrowed; or its exit row lacks a borrowed block; or its entry row claims that two borrowed blocks differ, or that
+    /// one is marked.
     EntryMisfit = 3,
     /// A pointer is read, written, copied or measured of which the row knows nothing: it may be
     /// stale.
@@ -21,9 +21,9 @@ pub enum Rule {
     PassesEnd = 5,
     /// A block of the VM file is changed that is not known to be marked.
     ChangesUnmarked = 6,
-    /// A block is locked into a slot that is held.
+    /// The instruction locks a block into a slot that is not empty.
     LocksIntoHeld = 7,
-    /// A slot that must be held is empty or of another kind, or one that is borrowed is unlocked.
+    /// A slot that must hold a block is empty or of another kind, or the instruction unlocks a borrowed one.
     WrongSlot = 8,
     /// The VM file is written while a slot holds a block of it.
     CommitsHeld = 9,

@@ -68,7 +68,7 @@ fn count_into(block: &mut [u8], c: u16, first: u16) -> Result<(), BadChunk>
     Ok(())
 }
 
-/// Makes the bytes count up from a first one, and on from 0 behind 255.
+/// Makes the bytes count up from a first one, and on from 0 after 255.
 pub(crate) fn count_up(bytes: &mut [u8], first: u16) {
     let mut number = (first % 256) as u8;
     for byte in bytes.iter_mut() {

@@ -1,7 +1,7 @@
 //! The calls on a heap of chunks in a block, and on the arrays in its chunks, as lines of a trial: each line is printed again with
 //! what its call answers. No call on a heap is made where the block is none; the answer is `no heap` then.
 //!
-//! A line has the name of a call of `lmem_heap` or `chunk_array` and the numbers that it takes behind the block; `insert_element` is
+//! A line has the name of a call of `lmem_heap` or `chunk_array` and the numbers that it takes after the block; `insert_element` is
 //! the `insert` of arrays, and `element` answers where the element begins in its chunk. The other lines are
 //!
 //!     block SIZE BYTE                 makes a block of this size, whose bytes are all this one

@@ -25,7 +25,7 @@ struct Kept {
     outcome: Result<(), Disk>,
 }
 
-/// Both directories of a file, with their blocks; with the bytes of each block where those of chunks are wanted.
+/// Both directories of a file, with their blocks; with the bytes of each block where those of chunks are required.
 pub(crate) fn listed<D: Device + Drop>(
     alloc: Global,
     file: &mut VmFile<D>,
@@ -106,7 +106,7 @@ fn put_maps(text: &mut String, directory: &Directory) -> Result<(), AllocError> 
     Ok(())
 }
 
-/// Tells of a block, and of its chunks, each with its length; then of its bytes where they are wanted.
+/// Tells of a block, and of its chunks, each with its length; then of its bytes where they are required.
 fn put_block(text: &mut String, block: &Kept, detail: Detail) -> Result<(), AllocError> {
     let Entry { h, uid, len } = block.entry;
     write!(text, "; {h} uid {uid} size {len} chunks")?;

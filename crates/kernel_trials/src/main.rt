@@ -2,10 +2,10 @@
 //! with what the call answers.
 //!
 //! `kernel BYTES AREA` makes the kernel anew, with a region of so many bytes and a new VM file whose area has so many, 65,536 where no
-//! number stands there. Behind the word of a call stand the handle of its block and then what the call takes, in the order of the
+//! number stands there. After the word of a call stand the handle of its block and then what the call takes, in the order of the
 //! function's arguments; `vm_` before the word of a call on chunks or through spans is for a block of the VM file. `load8 H C AT`,
 //! `load16 H C AT`, `store8 H C AT BYTE` and `store16 H C AT WORD` begin with the `deref` of the chunk; with `caelt_` before the word, the
-//! index of an element stands behind the chunk. `copy H TO FROM N` copies from chunk to chunk, and `bytes H C` reads all bytes of a chunk.
+//! index of an element stands after the chunk. `copy H TO FROM N` copies from chunk to chunk, and `bytes H C` reads all bytes of a chunk.
 //!
 //! `state` tells what the kernel has: whether it is sure of its file, what is mapped, and each block with its user ID, mark, count of
 //! locks and chunks (`HANDLE:LENGTH`). It locks each block of the file for that, and so brings it into memory. `contents` tells the bytes

@@ -53,7 +53,7 @@ impl Routines {
         self.is_reading && before_comment(text).trim() != "end"
     }
 
-    /// Takes the bytes that a line spells.
+    /// Takes the bytes that a line encodes.
     pub(crate) fn take(&mut self, rt: &HostRuntime, text: &str) -> io::Result<()> {
         for digits in before_comment(text).split_whitespace() {
             match hex::decode(rt.alloc(), digits) {

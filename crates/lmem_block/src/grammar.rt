@@ -16,7 +16,7 @@ const PLACES: usize = 16384;
 /// One place for each four bytes of a block of up to 4,096, so that no more are cleared for it.
 const FEW_PLACES: usize = 1024;
 
-/// Whether the bytes are a heap: exactly where they are header, table, chunks and free chunks
+/// Whether the bytes are a heap: exactly if they are header, table, chunks and free chunks
 /// that tile the block, as the format says. It takes time in proportion to the block's size.
 pub fn check(block: &[u8]) -> bool
     ensures { IsTrue result ↔ IsHeap block.now }
@@ -49,7 +49,7 @@ fn is_header(block: &[u8]) -> bool
         && table_end(block) <= size
 }
 
-/// Whether pieces tile the block behind the table, by marks of which none is set yet.
+/// Whether pieces tile the block after the table, by marks of which none is set yet.
 fn is_full(block: &[u8], starts: &mut [bool]) -> bool
     requires header { IsHeader block.now }
     requires blank { (k : ℕ) → slice_index_or starts.old k false ≡ false }
@@ -62,7 +62,7 @@ fn is_full(block: &[u8], starts: &mut [bool]) -> bool
     }
 }
 
-/// Whether pieces tile the block behind the table: goes over them from the lowest on. Where it
+/// Whether pieces tile the block after the table: goes over them from the lowest on. Where it
 /// comes by as many chunks as places are marked, no mark lies within a piece.
 fn is_tiled(block: &[u8], starts: &[bool], chunks: usize) -> bool
     requires header { IsHeader block.now }
@@ -97,16 +97,16 @@ fn is_tiled(block: &[u8], starts: &[bool], chunks: usize) -> bool
 #[derive(Clone, Copy)]
 struct Piece {
     end: usize,
-    /// 1, or 0 where it is free.
+    /// 1, or 0 if it is free.
     chunks: usize,
-    /// The next free chunk behind it.
+    /// The next free chunk after it.
     free: usize,
     /// The bytes of the free chunks up to its end.
     sum: usize,
 }
 
 /// The piece at an offset, where the next free chunk is to be at `free` and the ones so far
-/// have `sum` bytes: a chunk where one of an entry begins. None where no piece can stand there.
+/// have `sum` bytes: a chunk where one of an entry begins. None if no piece can be there.
 fn next_piece(block: &[u8], starts: &[bool], at: usize, free: usize, sum: usize) -> Option<Piece>
     requires header { IsHeader block.now }
     requires marks { Marks block.now (entries block.now) starts.now }

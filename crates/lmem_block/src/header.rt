@@ -6,7 +6,7 @@ ghost use Rattle.geos_terms.specs.Block.{entries, entry, entry_offset, table_end
 
 use crate::words::{get16, put16};
 
-// the offsets of the header's words, behind the block's handle
+// the offsets of the header's words, after the block's handle
 /// Where the table begins: it says `TABLE`.
 pub(crate) const TABLE_BEGIN: usize = 2;
 /// 0.

@@ -1,7 +1,7 @@
 //! The bytes of a block that holds a heap: what they say, whether they are a heap, and how a fresh one is made.
 //!
 //! A block begins with a header of eight words and a table of chunk handles; chunks and free chunks tile the rest. Here is
-//! what a reader needs; the calls that change a heap are in `lmem_heap`, which alone writes words of header and
+//! what a reader needs. The calls that change a heap are in `lmem_heap`; only that crate writes words of header and
 //! table. docs/HEAPS.md has a picture. (GEOS SDK Concepts Book, chapter Local Memory.)
 #![tactic(auto)]
 

@@ -23,7 +23,7 @@ fn turned(word: u16) -> u16
     word.rotate_right(1)
 }
 
-/// The entry of a handle, which may be one of no chunk. `BadChunk` where the table has none for it.
+/// The entry of a handle, which may be one of no chunk. `BadChunk` if the table has none for it.
 fn index_of(block: &[u8], chunk: u16) -> Result<usize, BadChunk>
     requires { IsHeap block.now }
     ensures some { IfOk result (λ i. (chunk ≡ 16 + 2 * i) × (i < entries block.now)) }
@@ -38,7 +38,7 @@ fn index_of(block: &[u8], chunk: u16) -> Result<usize, BadChunk>
     Ok(i)
 }
 
-/// The entry of a chunk's handle. `BadChunk` where no chunk has it.
+/// The entry of a chunk's handle. `BadChunk` if no chunk has it.
 pub fn find(block: &[u8], chunk: u16) -> Result<usize, BadChunk>
     requires { IsHeap block.now }
     ensures place { MatchResult result (λ i. place_of block.now chunk ≡ place_at block.now (entry block.now i))
@@ -61,7 +61,7 @@ fn has_no_byte(entry: u16) -> bool
     (entry as usize).wrapping_sub(1) >= NO_BYTE as usize - 1
 }
 
-/// Where the bytes of an entry's chunk stand, and how many there are.
+/// The offset of the bytes of an entry's chunk, and their number.
 pub fn place_of_entry(block: &[u8], index: usize) -> (usize, u16)
     requires heap { IsHeap block.now }
     requires known { index < entries block.now }
@@ -78,7 +78,7 @@ pub fn place_of_entry(block: &[u8], index: usize) -> (usize, u16)
     (at, get16(block, at - 2) - 2)
 }
 
-/// The length of a chunk in bytes. `BadChunk` exactly where no chunk has this handle.
+/// The length of a chunk in bytes. `BadChunk` exactly if no chunk has this handle.
 pub fn size(block: &[u8], chunk: u16) -> Result<u16, BadChunk>
     requires { IsHeap block.now }
     ensures { MatchResult result (λ n. IsSomeAnd (chunk_of (chunks block.now) chunk) (λ bytes. length bytes ≡ n))
@@ -88,9 +88,9 @@ pub fn size(block: &[u8], chunk: u16) -> Result<u16, BadChunk>
     Ok(n)
 }
 
-/// Where the bytes of a chunk stand: the offset of the first one, and how many there are. A
-/// chunk of no byte has offset 0. `BadChunk` exactly where no chunk has this handle. Bytes may
-/// be written there: see `writes_stay_in_their_chunk`.
+/// The offset of the first byte of a chunk, and the number of its bytes. A chunk of no byte
+/// has offset 0. `BadChunk` exactly if no chunk has this handle. Bytes may be written there:
+/// see `writes_stay_in_their_chunk`.
 pub fn place(block: &[u8], chunk: u16) -> Result<(u16, u16), BadChunk>
     requires { IsHeap block.now }
     ensures within { IfOk result (λ p. p.0 + p.1 ≤ length block.now) }
@@ -102,8 +102,8 @@ pub fn place(block: &[u8], chunk: u16) -> Result<(u16, u16), BadChunk>
     Ok((at as u16, n))
 }
 
-/// Where the bytes of a chunk stand, as `place` says it, the offset as an index of the block.
-/// `BadChunk` exactly where no chunk has this handle.
+/// The same as `place`, with the offset as an index of the block. `BadChunk` exactly if no
+/// chunk has this handle.
 // The compiler makes one number of a pair of words, and takes it apart again; not of this pair.
 pub fn locate(block: &[u8], chunk: u16) -> Result<(usize, u16), BadChunk>
     requires { IsHeap block.now }
@@ -133,7 +133,7 @@ pub fn total_free(block: &[u8]) -> u16
     get16(block, TOTAL_FREE)
 }
 
-/// The lowest handle above `chunk` that has a chunk, or none where there is none.
+/// The lowest handle above `chunk` that has a chunk, or none if there is none.
 pub fn next(block: &[u8], chunk: u16) -> Option<u16>
     requires { IsHeap block.now }
     ensures { MatchOption result (IsLast (chunks block.now) chunk) (λ h. IsNext (chunks block.now) chunk h) }

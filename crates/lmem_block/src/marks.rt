@@ -7,8 +7,8 @@ ghost use Rattle.lmem_block.specs.Check.{IsTiled, Marks, marks_from};
 use crate::header::{NO_BYTE, entries, entry, table_end};
 
 /// Marks where the chunks of the table begin, each place once; how many there are. There is a
-/// place for each four bytes. None where an entry can't be the offset of a chunk: it lies in the
-/// table, behind the block, at a place that no chunk can have, or where another entry's chunk
+/// place for each four bytes. None if an entry can't be the offset of a chunk: it lies in the
+/// table, after the block, at a place that no chunk can have, or where another entry's chunk
 /// begins.
 pub(crate) fn mark(block: &[u8], starts: &mut [bool]) -> Option<usize>
     requires header { IsHeader block.now }

@@ -11,11 +11,11 @@ use crate::room::{room_for, used_with_new};
 use crate::table::{add_entries, lowest_entry};
 use lmem_block::{BadChunk, entries, find, handle_of};
 
-/// Makes a chunk of `len` zero bytes and answers its handle: the lowest one that is not in use.
-/// Where all entries of the table are in use, it gets two more. Other chunks may move.
+/// Makes a chunk of `len` zero bytes and returns its handle, the lowest one that is not in use.
+/// If all entries of the table are in use, the table gets two more. Other chunks may move.
 ///
-/// `NeedMore` names the size that the block needs, where it is larger than the block is;
-/// `TooBig` where no block is that large.
+/// `NeedMore` with the size that the block needs if the block is smaller; `TooBig` if no block
+/// is that large.
 pub fn alloc(block: &mut [u8], len: u16) -> Result<u16, RoomError>
     requires { IsHeap block.old }
     ensures heap { IsHeap block.new }
@@ -50,7 +50,7 @@ fn make_entry(block: &mut [u8], i: usize)
 }
 
 /// Frees a chunk: its handle has no chunk then, and its bytes are free. Other chunks may move.
-/// `BadChunk` exactly where no chunk has this handle.
+/// `BadChunk` exactly if no chunk has this handle.
 pub fn free(block: &mut [u8], chunk: u16) -> Result<(), BadChunk>
     requires { IsHeap block.old }
     ensures heap { IsHeap block.new }

@@ -60,8 +60,8 @@ pub(crate) fn new_chunk(block: &mut [u8], i: usize, n: u16)
     unreachable!()
 }
 
-/// Gives an entry that is not in use a chunk of n zero bytes, in front of the first free chunk
-/// that is large enough. False where none is; then nothing is changed.
+/// Gives an entry that is not in use a chunk of n zero bytes, before the first free chunk
+/// that is large enough. False if none is; then nothing is changed.
 fn place_chunk(block: &mut [u8], i: usize, n: u16) -> bool
     requires heap { IsHeap block.old }
     requires known { i < entries block.old }
@@ -83,8 +83,8 @@ fn place_chunk(block: &mut [u8], i: usize, n: u16) -> bool
     }
 }
 
-/// Gives a chunk n bytes: the first ones that fit, and zeros behind them. Where the free chunk
-/// behind it is not large enough, the others move.
+/// Gives a chunk n bytes: the first ones that fit, and zeros after them. Where the free chunk
+/// after it is not large enough, the others move.
 pub(crate) fn resize_chunk(block: &mut [u8], i: usize, n: u16)
     requires heap { IsHeap block.old }
     requires known { i < entries block.old }
@@ -109,8 +109,8 @@ pub(crate) fn resize_chunk(block: &mut [u8], i: usize, n: u16)
     resize_in_place(block, i, n);
 }
 
-/// Gives a chunk another length where it stands, and leaves the others where they are. False
-/// where no free chunk behind it is large enough; then no chunk is changed.
+/// Changes the length of a chunk in place, and leaves the others where they are. False if no
+/// free chunk after it is large enough; then no chunk is changed.
 fn resize_beside(block: &mut [u8], i: usize, n: u16) -> bool
     requires heap { IsHeap block.old }
     requires known { i < entries block.old }
@@ -141,8 +141,8 @@ fn resize_beside(block: &mut [u8], i: usize, n: u16) -> bool
     }
 }
 
-/// Gives a chunk another length for which it takes as many bytes of the block: its size word is
-/// all that says so.
+/// Changes the length of a chunk that takes as many bytes of the block with it: only its size
+/// word changes.
 fn resize_within(block: &mut [u8], i: usize, n: u16)
     requires heap { IsHeap block.old }
     requires known { i < entries block.old }
@@ -169,8 +169,8 @@ fn may_be_free(block: &[u8], at: usize, size: usize) -> bool
     word % 4 == 0 && word as usize >= size
 }
 
-/// Gives a chunk another length in front of the first free chunk that is large enough, and
-/// leaves the others where they are. False where none is; then nothing is changed.
+/// Gives a chunk another length before the first free chunk that is large enough, and
+/// leaves the others where they are. False if none is; then nothing is changed.
 fn move_away(block: &mut [u8], i: usize, n: u16) -> bool
     requires heap { IsHeap block.old }
     requires known { i < entries block.old }
@@ -190,7 +190,7 @@ fn move_away(block: &mut [u8], i: usize, n: u16) -> bool
     }
 }
 
-/// Gives a chunk of a packed heap another length where it stands, and moves those behind it.
+/// Changes the length of a chunk of a packed heap in place, and moves those after it.
 fn resize_in_place(block: &mut [u8], i: usize, n: u16)
     requires packed { IsPacked block.old }
     requires known { i < entries block.old }

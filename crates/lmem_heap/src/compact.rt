@@ -24,7 +24,7 @@ pub fn contract(block: &mut [u8])
     }
 }
 
-/// Closes the first gap, and where the run behind it is short also others, with one pass over the
+/// Closes the first gap, and where the run after it is short also others, with one pass over the
 /// table for all of them.
 fn close_gaps(block: &mut [u8])
     requires heap { IsHeap block.old }
@@ -39,7 +39,7 @@ fn close_gaps(block: &mut [u8])
     }
 }
 
-/// Moves the chunks behind one gap after the other, up to one with a long run, and then writes
+/// Moves the chunks after one gap after the other, up to one with a long run, and then writes
 /// their entries. It has a table of runs on the stack, which is of no use for a single one.
 #[inline(never)]
 fn slide_gaps(block: &mut [u8], first: Gap)
@@ -62,7 +62,7 @@ fn slide_gaps(block: &mut [u8], first: Gap)
     write_entries(block, &slides);
 }
 
-/// The first gap, where the run behind it is short.
+/// The first gap, where the run after it is short.
 fn short_gap(block: &[u8]) -> Option<Gap>
     requires { (heap : List ℕ) × IsButForEntries block.now heap }
     ensures { IfSome result (λ gap. IsFirstGap block.now gap) }
@@ -93,15 +93,15 @@ fn is_compact(block: &[u8]) -> bool
     false
 }
 
-/// The first free chunk of a heap with chunks behind it.
+/// The first free chunk of a heap with chunks after it.
 #[derive(Clone, Copy)]
 struct Gap {
     /// Its offset and its size.
     first: u16,
     size: u16,
-    /// Where the chunks behind it end: at the next free chunk, or at the block's end.
+    /// The end of the chunks after it: the next free chunk, or the block's end.
     end: u16,
-    /// The size of that free chunk, and the next one behind it; both 0 at the block's end.
+    /// The size of that free chunk, and the next one after it; both 0 at the block's end.
     more: u16,
     after: u16,
 }
@@ -137,8 +137,8 @@ impl Gap {
         }
     }
 
-    /// Whether the run behind it is that long that a pass over the table for it alone takes less
-    /// than to look for each of its entries.
+    /// Whether the run after it is so long that one pass over the table takes less time than a
+    /// search for each of its entries.
     fn is_long(self, block: &[u8]) -> bool
         requires { self.first + self.size ≤ self.end }
     {
@@ -146,7 +146,7 @@ impl Gap {
         64 * run as usize >= block.len()
     }
 
-    /// Moves the chunks behind the gap to where it begins, and joins it with the free chunk
+    /// Moves the chunks after the gap to where it begins, and joins it with the free chunk
     /// there.
     fn close(self, block: &mut [u8])
         requires header { IsHeader block.old }

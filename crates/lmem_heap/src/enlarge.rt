@@ -6,7 +6,7 @@ ghost use Rattle.geos_terms.specs.Heap.{IsBlockSize, IsHeap};
 use crate::holes::Hole;
 use lmem_block::{BLOCK_SIZE, put16};
 
-/// Makes the bytes behind a heap part of it, as free bytes. The first `old_size` bytes are the
+/// Makes the bytes after a heap part of it, as free bytes. The first `old_size` bytes are the
 /// heap as it was, and the block's length is its new size, a legal one. Every chunk keeps its
 /// handle and its bytes, and the table stays as long as it is.
 pub fn enlarged(block: &mut [u8], old_size: u16)

@@ -4,7 +4,7 @@ ghost use Rattle.lmem_heap.specs.Extents.{HasExtent, IsExtent};
 use crate::chunks::cost;
 use lmem_block::{entry, get16};
 
-/// Where an entry's chunk lies, with its size word and its padding.
+/// The extent of an entry's chunk, with its size word and its padding.
 #[derive(Clone, Copy)]
 pub(crate) struct Extent {
     pub(crate) begin: usize,
@@ -14,7 +14,7 @@ pub(crate) struct Extent {
 }
 
 impl Extent {
-    /// Where the chunk of an entry lies, from its size word.
+    /// The extent of an entry's chunk, from its size word.
     pub(crate) fn of(block: &[u8], i: usize) -> Extent
         requires { HasExtent block.now i }
         ensures { IsExtent block.now i result }

@@ -38,7 +38,7 @@ impl Hole {
         Hole { link, at, end }
     }
 
-    /// The first free chunk of at least this size, as what stands behind an empty hole.
+    /// The first free chunk of at least this size, as the one after an empty hole.
     pub(crate) fn first_fit(block: &[u8], size: usize) -> Option<Hole>
         requires { IsHeap block.now }
         ensures { MatchOption result (FirstIsSmaller block.now size) (λ hole. FitsBehind block.now hole.link hole.at hole.end size) }
@@ -81,7 +81,7 @@ impl Hole {
     }
 
     /// Makes the front of the hole the chunk of an entry that is not in use. Its first `keep`
-    /// bytes are those that stand there, the others zeros. The rest of the hole is left.
+    /// bytes are those of the hole, the others zeros. Returns the rest of the hole.
     pub(crate) fn fill(self, block: &mut [u8], i: usize, keep: usize, n: u16) -> Hole
         requires hole { IsBeside block.old self.link self.at self.end }
         requires some { 0 < n }
@@ -106,7 +106,7 @@ impl Hole {
     }
 
     /// Moves the chunk of an entry to where the hole is, and gives it n bytes, which fill the
-    /// hole: its first ones that fit, and zeros behind them. The hole that it leaves.
+    /// hole: its first ones that fit, and zeros after them. The hole that it leaves.
     pub(crate) fn move_in(self, block: &mut [u8], i: usize, n: u16) -> Hole
         requires hole { IsBeside block.old self.link self.at self.end }
         requires some { 0 < n }
@@ -128,8 +128,8 @@ impl Hole {
         Hole::at(block, chunk.begin, chunk.end)
     }
 
-    /// Makes the hole this large, with bytes of the free chunk behind it where it is smaller.
-    /// None where they are not enough; then nothing is changed.
+    /// Makes the hole this large, with bytes of the free chunk after it where it is smaller.
+    /// None if they are not enough; then nothing is changed.
     pub(crate) fn widen(self, block: &mut [u8], size: usize) -> Option<Hole>
         requires hole { IsBeside block.old self.link self.at self.end }
         requires fours { (self.end % 4 ≡ 0) × (size % 4 ≡ 0) }
@@ -149,7 +149,7 @@ impl Hole {
         Some(self.take(block, size - has))
     }
 
-    /// Takes so many bytes from the front of the free chunk behind the hole.
+    /// Takes so many bytes from the front of the free chunk after the hole.
     pub(crate) fn take(self, block: &mut [u8], size: usize) -> Hole
         requires hole { IsBeside block.old self.link self.at self.end }
         requires behind { word block.old self.link ≡ self.end }
@@ -165,7 +165,7 @@ impl Hole {
         self.take_front(block, size)
     }
 
-    /// Takes bytes from the front of the free chunk behind the hole, fewer than it has.
+    /// Takes bytes from the front of the free chunk after the hole, fewer than it has.
     fn take_front(self, block: &mut [u8], size: usize) -> Hole
         requires hole { IsBeside block.old self.link self.at self.end }
         requires behind { word block.old self.link ≡ self.end }
@@ -207,7 +207,7 @@ impl Hole {
         }
     }
 
-    /// Takes the free chunk behind the hole, if there is one that touches it.
+    /// Takes the free chunk after the hole, if there is one that touches it.
     fn merge_behind(self, block: &mut [u8]) -> Hole
         requires hole { IsBeside block.old self.link self.at self.end }
         requires some { self.at < self.end }
@@ -225,7 +225,7 @@ impl Hole {
         self.take_whole(block)
     }
 
-    /// Takes the free chunk behind the hole.
+    /// Takes the free chunk after the hole.
     fn take_whole(self, block: &mut [u8]) -> Hole
         requires hole { IsBeside block.old self.link self.at self.end }
         requires behind { word block.old self.link ≡ self.end }

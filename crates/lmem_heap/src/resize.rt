@@ -11,10 +11,10 @@ use crate::error::{DeleteError, InsertError, ReallocError, RoomError};
 use crate::room::{room_for, used_with};
 use lmem_block::{clear, find, move_bytes, place_of_entry};
 
-/// Gives a chunk `len` bytes: its first ones that fit, and zeros behind them. Other chunks may
+/// Gives a chunk `len` bytes: its first ones that fit, and zeros after them. Other chunks may
 /// move.
 ///
-/// `BadChunk` exactly where no chunk has this handle; else `Room` where the block has no room:
+/// `BadChunk` exactly if no chunk has this handle; otherwise `Room` if the block has no room:
 /// see `alloc`.
 pub fn realloc(block: &mut [u8], chunk: u16, len: u16) -> Result<(), ReallocError>
     requires { IsHeap block.old }
@@ -32,8 +32,8 @@ pub fn realloc(block: &mut [u8], chunk: u16, len: u16) -> Result<(), ReallocErro
 
 /// Inserts `count` zero bytes at an offset of a chunk. Other chunks may move.
 ///
-/// `BadChunk` exactly where no chunk has this handle; else `Range` where `at` is past the
-/// chunk's length; else `Room` where the block has no room: see `alloc`.
+/// `BadChunk` exactly if no chunk has this handle; otherwise `Range` if `at` is past the
+/// chunk's length; otherwise `Room` if the block has no room: see `alloc`.
 pub fn insert(block: &mut [u8], chunk: u16, at: u16, count: u16) -> Result<(), InsertError>
     requires { IsHeap block.old }
     ensures heap { IsHeap block.new }
@@ -56,7 +56,7 @@ pub fn insert(block: &mut [u8], chunk: u16, at: u16, count: u16) -> Result<(), I
 
 /// Deletes the `count` bytes at an offset of a chunk. Other chunks may move.
 ///
-/// `BadChunk` exactly where no chunk has this handle; else `Range` where `at + count` is past the
+/// `BadChunk` exactly if no chunk has this handle; otherwise `Range` if `at + count` is past the
 /// chunk's length.
 pub fn delete(block: &mut [u8], chunk: u16, at: u16, count: u16) -> Result<(), DeleteError>
     requires { IsHeap block.old }
@@ -115,7 +115,7 @@ fn open_bytes(block: &mut [u8], i: usize, at: usize, n: usize)
     clear(block, begin, n);
 }
 
-/// Moves the bytes of a chunk behind n of them down over those.
+/// Moves the bytes of a chunk after n of them down over those.
 fn close_bytes(block: &mut [u8], i: usize, at: usize, n: usize)
     requires heap { IsHeap block.old }
     requires known { i < entries block.old }

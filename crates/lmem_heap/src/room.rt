@@ -10,7 +10,7 @@ use crate::error::RoomError;
 use geos_terms::MOST_BLOCK_BYTES;
 use lmem_block::{TOTAL_FREE, entries, get16, place_of_entry};
 
-/// Whether a block of this size has room for so many bytes; else how large it must be.
+/// Whether a block of this size has room for so many bytes; otherwise how large it must be.
 pub(crate) fn room_for(used: usize, size: usize) -> Result<(), RoomError>
     requires small { used ≤ 300000 }
     requires size { IsBlockSize size }

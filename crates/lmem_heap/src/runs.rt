@@ -6,8 +6,8 @@ ghost use Rattle.lmem_heap.specs.Moves.{entry_moved, MapsEntries, MovesRun};
 
 use lmem_block::{entries, entry, move_bytes, put_entry};
 
-/// Moves the chunks that stand from `from` to `end` so that they begin at `to`, and their
-/// entries with them.
+/// Moves the chunks from `from` to `end` so that they begin at `to`, and their entries with
+/// them.
 pub(crate) fn move_run(block: &mut [u8], from: usize, end: usize, to: usize)
     requires behind_table { (table_end block.old ≤ from) × (table_end block.old ≤ to) }
     requires within { (from ≤ end) × (end ≤ length block.old) × (to + (end - from) ≤ length block.old) }

@@ -12,7 +12,7 @@ pub(crate) const MOST_SLIDES: usize = 128;
 /// How many entries are compared together.
 const RUN: usize = 16;
 
-/// A run of chunks that stood from `from` to `end`, and stands at `to` now.
+/// A run of chunks that was moved from `from`, up to `end`, to `to`.
 #[derive(Clone, Copy, Default)]
 pub(crate) struct Slide {
     pub(crate) from: u16,
@@ -42,8 +42,8 @@ struct Slides<'a> {
     high: u16,
 }
 
-/// Writes where the chunks of these runs stand into the table. Runs of entries of which none is
-/// that of a chunk that moved are left out.
+/// Writes the new offsets of the chunks of these runs into the table. Runs of entries without a
+/// moved chunk are left out.
 pub(crate) fn write_entries(block: &mut [u8], slides: &[Slide])
     requires table { table_end block.old ≤ length block.old }
     requires order { (high : ℕ) × AreInOrder 0 slides.now high }

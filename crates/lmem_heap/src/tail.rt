@@ -7,7 +7,7 @@ ghost use Rattle.lmem_heap.specs.Packed.{chunks_end, IsPacked, SetsTail};
 use crate::compact::contract;
 use lmem_block::{FIRST_FREE, TOTAL_FREE, get16, put16};
 
-/// Moves the chunks together, with all free bytes behind them.
+/// Moves the chunks together, with all free bytes after them.
 pub(crate) fn pack(block: &mut [u8])
     requires { IsHeap block.old }
     ensures packed { IsPacked block.new }
@@ -25,8 +25,8 @@ pub(crate) fn chunks_end(block: &[u8]) -> usize
     block.len() - get16(block, TOTAL_FREE) as usize
 }
 
-/// Makes the bytes from `at` to the block's end free: one free chunk, or none where there are
-/// none. What they held is left as it is, but for the free chunk's two words.
+/// Makes the bytes from `at` to the block's end free: one free chunk, or none if there are no
+/// bytes. Only the free chunk's two words are written.
 pub(crate) fn set_tail(block: &mut [u8], at: usize)
     requires within { (16 ≤ at) × (at ≤ length block.old) × (length block.old ≤ most_block_bytes) }
     requires fours { (length block.old - at) % 4 ≡ 0 }

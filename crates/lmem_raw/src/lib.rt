@@ -1,7 +1,7 @@
 //! A region of bytes over one raw allocation: the memory in which moving blocks lie.
 //!
-//! Pointers are reached in `raw` alone. Everything here is a plain method over the slice that
-//! it lends, and callers see a `Region` as a list of bytes.
+//! Only `raw` uses pointers. Everything here is a plain method over the slice that `raw`
+//! returns, and callers see a `Region` as a list of bytes.
 #![tactic(auto)]
 
 ghost use Rattle.std.specs.Prelude.{◌≡◌, ℕ, ◌+◌, ◌*◌, ◌/◌, ◌%◌, ◌<◌, ◌≤◌, List, [], ◌∷◌, length, replicate, slice_index, IfOk};

@@ -1,4 +1,4 @@
-//! The bytes behind a pointer, as their owner sees them.
+//! The bytes at a pointer, as their owner sees them.
 ghost use Rattle.std.specs.Prelude.{◌≡◌, ℕ, ◌+◌, ◌^◌, ◌<◌, ◌≤◌, List, [], ◌∷◌, ◌++◌, length, IfSome};
 ghost use Rattle.std.specs.Borrow.{sem};
 ghost use denote.RawPtr.{Ptr};
@@ -8,7 +8,7 @@ use std::alloc::Allocator;
 use std::marker::{Model, PhantomData};
 use std::slice;
 
-/// The bytes at `ptr`, and behind them room for `spare` more.
+/// The bytes at `ptr`, and after them room for `spare` more.
 pub(crate) struct RawBytes {
     pub(crate) ptr: *mut u8,
     pub(crate) ghost bytes: { List ℕ },

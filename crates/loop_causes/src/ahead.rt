@@ -8,7 +8,7 @@ use geos_counters::taken_at;
 use pc_tables::Table;
 use std::alloc::{AllocError, Global};
 
-/// How many steps are taken behind an edge; 0 where the instruction at the pc has none, or it leaves the routine.
+/// The number of steps after an edge; 0 if the instruction at the pc has no such edge, or the edge leaves the routine.
 fn longest_over(body: &Body, longest: &Table<u64>, pc: u16, branch: bool) -> u64
     requires here { pc < body.now.end }
     requires few { (to : ℕ) → slice_index longest.now to ≤ 4294967295 }
@@ -21,7 +21,7 @@ fn longest_over(body: &Body, longest: &Table<u64>, pc: u16, branch: bool) -> u64
     }
 }
 
-/// How many steps are taken from a pc on the longest way, whichever way LOOPs go, where that is known behind its edges.
+/// The number of steps on the longest path from a pc, whether LOOPs are taken or not, from those after its edges.
 fn longest_from(body: &Body, longest: &Table<u64>, pc: u16) -> u64
     requires here { pc < body.now.end }
     requires few { (to : ℕ) → slice_index longest.now to ≤ 4294967295 }
@@ -39,7 +39,7 @@ fn pass_by(body: &Body, longest: &mut Table<u64>) -> bool
     ensures some { result ≡ true → MayPass body.now.image.now body.now.r }
     ensures none { result ≡ false → NonePasses body.now.image.now body.now.r }
 {
-    // For what its law says.
+    // Recalls the lemma.
     longest.lengths();
     for pc in (body.start..body.end).rev() {
         let steps = longest_from(body, longest, pc);

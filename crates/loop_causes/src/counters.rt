@@ -1,4 +1,4 @@
-//! What is known of the counters behind a way.
+//! What is known of the counters after a path.
 
 ghost use Rattle.std.specs.Prelude.{◌≡◌, ◌<◌, ℕ, true, false, slice_index_or, slice_set};
 ghost use Rattle.geos_image.specs.Fields.{FieldsFit};
@@ -8,7 +8,7 @@ ghost use Rattle.loop_causes.specs.declared.counters.Counter.TheVariants.{Kept, 
 
 use geos_image::{Instr, Opcode};
 
-/// What is known of a counter behind a way.
+/// What is known of a counter after a path.
 #[derive(Clone, Copy)]
 pub(crate) enum Counter {
     /// It is what it was where the way began.
@@ -47,7 +47,7 @@ pub(crate) fn number_in(counter: Counter) -> u16
     }
 }
 
-/// What is known of a counter behind a further way, on which it is kept or not.
+/// What is known of a counter after a further path, which leaves it unchanged or not.
 fn unless_changed(way: Counter, counter: Counter) -> Counter
     ensures { result ≡ unless_changed way counter }
 {
@@ -71,7 +71,7 @@ pub(crate) fn unless_all_changed(way: &[Counter; 4], counters: &[Counter; 4]) ->
     ]
 }
 
-/// What is known of a counter behind a call that touches it or not.
+/// What is known of a counter after a call that touches it or not.
 fn unless_touched(touches: bool) -> Counter
     ensures touched { touches ≡ true → result ≡ Unknown }
     ensures kept { touches ≡ false → result ≡ Kept }
@@ -83,7 +83,7 @@ fn unless_touched(touches: bool) -> Counter
     }
 }
 
-/// What is known of the counters behind a call of a routine that touches such ones.
+/// What is known of the counters after a call of a routine that touches those given.
 pub(crate) fn untouched(touched: &[bool; 4]) -> [Counter; 4]
     ensures touched { (k : ℕ) → slice_index_or touched.now k true ≡ true → counter_at result k ≡ Unknown }
     ensures kept { (k : ℕ) → slice_index_or touched.now k true ≡ false → counter_at result k ≡ Kept }
@@ -97,7 +97,7 @@ pub(crate) fn untouched(touched: &[bool; 4]) -> [Counter; 4]
     ]
 }
 
-/// What is known of a LOOP's counter behind one of its edges, if that is taken.
+/// What is known of a LOOP's counter after one of its edges; `None` if that edge is never taken.
 fn loop_after(counter: Counter, branch: bool) -> Option<Counter>
     ensures { result ≡ loop_after counter branch }
 {
@@ -119,7 +119,8 @@ fn loop_after(counter: Counter, branch: bool) -> Option<Counter>
     }
 }
 
-/// What is known of the counters behind an edge of an instruction, if it is taken, where a word is so much, and a call changes such ones.
+/// What is known of the counters after an edge of an instruction; `None` if the edge is never taken. The word of SETKW and the counters that
+/// a call touches are given.
 pub(crate) fn counters_after(
     i: &Instr,
     branch: bool,

@@ -13,7 +13,7 @@ use geos_causes::{Cause, LoopOn};
 use geos_code::Body;
 use geos_counters::Touching;
 
-/// The LOOP at a pc, if control goes round by it, and on a way to it nothing sets its counter.
+/// The LOOP at a pc, if it is on a cycle, and some path to it does not set its counter.
 fn find_not_set(
     body: &Body,
     touching: &Touching,
@@ -42,7 +42,7 @@ fn find_not_set(
     }
 }
 
-/// A call for which the LOOP at a pc may not pay, those in a component first, where on some way round none may.
+/// A call because of which the LOOP at a pc may not pay, those in a component first, if some cycle has no LOOP that may pay.
 pub(crate) fn find_touched(
     body: &Body,
     touching: &Touching,
@@ -68,7 +68,7 @@ pub(crate) fn find_touched(
     }
 }
 
-/// Why the LOOP at a pc of a component may not pay, where on some way round none may.
+/// Why the LOOP at a pc of a component may not pay, if some cycle has no LOOP that may.
 fn idle_at(
     body: &Body,
     touching: &Touching,
@@ -93,7 +93,7 @@ fn idle_at(
     }
 }
 
-/// Why the first LOOP of a component that may not pay does not, where on some way round none may.
+/// Why the first LOOP of a component that may not pay does not, if some cycle has no LOOP that may.
 pub fn first_idle(
     body: &Body,
     touching: &Touching,

@@ -2,7 +2,7 @@
 
 ghost use Rattle.loop_causes.specs.Causes.{NoOtherHolds};
 
-/// A law: where the cause is unknown, no other one holds.
+/// Lemma: if the cause is unknown, no other cause holds.
 pub fn no_other_cause_holds()
     ensures { NoOtherHolds }
 {}

@@ -15,7 +15,7 @@ use geos_causes::{Cause, Within};
 use geos_code::Body;
 use geos_counters::Touching;
 
-/// Why the LOOP at a pc of a component may not pay there, where on some way round none may.
+/// Why the LOOP at a pc of a component may not pay there, if some cycle has no LOOP that may.
 fn cause_at(
     body: &Body,
     touching: &Touching,
@@ -37,7 +37,7 @@ fn cause_at(
     find_touched(body, touching, graph, order, piece, from, trails)
 }
 
-/// The first cause for which a LOOP of a component may not pay there, where on some way round none may.
+/// The first cause for which a LOOP of a component may not pay there, if some cycle has no LOOP that may.
 pub fn first_cause(
     body: &Body,
     touching: &Touching,
@@ -61,7 +61,7 @@ pub fn first_cause(
     None
 }
 
-/// Where in a component the counter of a LOOP is set for it, the first one that is found.
+/// The first instruction found in a component that sets the counter of a LOOP for it.
 fn find_set(
     body: &Body,
     touching: &Touching,
@@ -84,7 +84,7 @@ fn find_set(
     None
 }
 
-/// Where in a component the counter of a LOOP is set for it, as the cause.
+/// The instruction of a component that sets the counter of a LOOP for it, as the cause.
 pub fn cause_of_set(
     body: &Body,
     touching: &Touching,
@@ -103,7 +103,7 @@ pub fn cause_of_set(
     }
 }
 
-/// Where in a component the counter of a LOOP is set for it, whatever it was at the loop's head, as the cause.
+/// The instruction of a component that sets the counter of a LOOP for it, whatever it was at the loop's head, as the cause.
 pub fn cause_of_set_again(
     body: &Body,
     touching: &Touching,

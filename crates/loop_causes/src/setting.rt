@@ -20,7 +20,7 @@ use geos_image::Opcode;
 use geos_rows::Strongest;
 use std::alloc::{AllocError, Global};
 
-/// The LOOP at a pc, if it takes from the counter, and the counter is kept up to it from behind a place from where control goes on.
+/// The LOOP at a pc, if it takes from the counter, and some path from the given instruction to it leaves the counter unchanged.
 fn kept_at(
     body: &Body,
     touching: &Touching,
@@ -46,7 +46,7 @@ fn kept_at(
     }
 }
 
-/// The first LOOP that pays in a nest, and up to which a counter is kept from behind a place.
+/// The first LOOP that pays in a nest, and to which some path from an instruction leaves a counter unchanged.
 fn find_kept(
     body: &Body,
     touching: &Touching,
@@ -78,7 +78,7 @@ fn find_kept(
     None
 }
 
-/// Whether a counter is kept from behind a place to a LOOP that takes from it, by which control goes round.
+/// Whether some path from an instruction leaves a counter unchanged up to a LOOP that takes from it and is on a cycle.
 fn pays_for_loop(
     body: &Body,
     touching: &Touching,
@@ -167,10 +167,10 @@ fn setting_at(
     }
 }
 
-/// The most instructions that are looked at in a round for far ways.
+/// The most visits in a round of the search along far paths.
 const MOST_LOOKS: usize = 1 << 21;
 
-/// Whether far ways are looked for: for each LOOP all instructions of its routine are looked at.
+/// Whether far paths are searched, which visits all instructions of a routine for each of its LOOPs.
 fn may_go_far(body: &Body) -> bool
     ensures { result ≡ true → loops_in body.now.image.now body.now.start (body.now.end - body.now.start) * (body.now.end - body.now.start)
         ≤ 2097152 }
@@ -206,7 +206,7 @@ fn words_pass(
 }
 
 /// How the instruction at a pc sets a counter for a loop, and whether more steps are taken than a potential can say if words are as much as
-/// they may be; `None` if it sets no counter for a loop. `AllocError` where the allocator refuses memory.
+/// they may be; `None` if it sets no counter for a loop. `AllocError` if the allocator refuses memory.
 pub fn cause_of_setting(
     alloc: Global,
     body: &Body,

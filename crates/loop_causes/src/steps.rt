@@ -15,7 +15,7 @@ use geos_counters::Touching;
 use pc_tables::Table;
 use std::alloc::{AllocError, Global};
 
-/// Whether on some way more steps are taken than a potential can say, if each word is 0. `AllocError` where the allocator refuses memory.
+/// Whether some path takes more steps than the greatest potential, if each word is 0. `AllocError` if the allocator refuses memory.
 pub fn least_steps_pass(alloc: Global, body: &Body, touching: &Touching) -> Result<bool, AllocError>
     ensures { IfOk result (λ passes. passes ≡ true → StepsPass body.now.image.now body.now.r) }
 {

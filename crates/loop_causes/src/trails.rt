@@ -19,7 +19,7 @@ use std::alloc::{AllocError, Global};
 pub(crate) struct Came {
     pub(crate) from: u16,
     pub(crate) branch: bool,
-    /// Whether ways begin behind it.
+    /// Whether paths begin after it.
     pub(crate) begins: bool,
     ghost inside: { from < 4096 },
 }
@@ -32,7 +32,7 @@ pub struct Trails {
     waits: Pile,
 }
 
-/// Whether an edge of the instruction leaves the counter as it is, if one is asked for, where routines touch these counters at most.
+/// Whether an edge of the instruction leaves the counter unchanged, if one is given. Routines touch at most these counters.
 fn keeps(possible: &Touched, counter: Option<u8>, i: &Instr, branch: bool) -> bool
     ensures { (image : Parts) → NotesAllTouched image possible.now → result ≡ true → keeps image counter i.now i.now.opcode branch ≡ true }
 {
@@ -47,7 +47,7 @@ fn keeps(possible: &Touched, counter: Option<u8>, i: &Instr, branch: bool) -> bo
     }
 }
 
-/// Where an edge leads, if the instruction has it, it stays in the routine, and it keeps the counter.
+/// The target of an edge, if the instruction has it, it stays in the routine, and it leaves the counter unchanged.
 fn lead_keeping(
     body: &Body,
     touching: &Touching,
@@ -101,7 +101,7 @@ impl Trails {
     ghost use Rattle.loop_causes.specs.Causes.{IsTrailBut};
     ghost use Rattle.loop_causes.specs.Noted.{comes_to, came_at, NoTrails, StayTrails, KeepsIt};
 
-    /// Control is known to come to no place. `AllocError` where the allocator refuses memory.
+    /// Control is known to come to no place. `AllocError` if the allocator refuses memory.
     pub fn new(alloc: Global) -> Result<Trails, AllocError>
         ensures { IfOk result NoTrails }
     {
@@ -129,7 +129,7 @@ impl Trails {
         ensures waits { comes_to self.old to ≡ false → Waits self.new.waits to }
         ensures others { (pc : ℕ) → pc ≢ to → came_at self.new pc ≡ came_at self.old pc }
     {
-        // For what their law says.
+        // Recalls the lemma.
         self.seen.lengths();
         self.came.lengths();
         if !self.seen.at(to) {
@@ -139,7 +139,7 @@ impl Trails {
         }
     }
 
-    /// It goes on along an edge.
+    /// Follows an edge.
     fn go_along(&mut self, graph: &Graph, counter: Option<u8>, from: u16, branch: bool)
         requires { from < 4096 }
         ensures stay { StayTrails self.old self.new }
@@ -161,7 +161,7 @@ impl Trails {
         }
     }
 
-    /// It goes on from the places that are noted, but one, along edges that keep the counter, if one is asked for.
+    /// Follows the edges from all noted instructions except one, along edges that leave the counter unchanged, if one is given.
     pub(crate) fn go(&mut self, graph: &Graph, counter: Option<u8>, but: Option<u16>)
         ensures { StayTrails self.old self.new }
     {
@@ -184,7 +184,7 @@ impl Trails {
         self.seen.at(pc)
     }
 
-    /// The place of the edge behind which the way to a place begins that was noted.
+    /// The source of the edge with which the noted path to an instruction begins.
     pub(crate) fn origin(&self, body: &Body, to: u16) -> Option<u16>
         requires { to < 4096 }
         ensures { IfSome result (λ pc. pc < body.now.end) }

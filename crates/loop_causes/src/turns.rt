@@ -31,7 +31,7 @@ struct Loops<'body, 'touched, 'rows, 'turns> {
     longest: [u64; 4],
 }
 
-/// As many steps; of more than a potential can say, just one more.
+/// The number of steps, at most one above the greatest potential.
 fn capped(steps: u64) -> u64
     ensures less { result ≤ steps }
     ensures small { result ≤ 4294967296 }
@@ -54,7 +54,7 @@ fn word_at(rows: &Known, pc: u16, word: u8) -> u16
     }
 }
 
-/// A way to a pc goes on along an edge, if that is taken.
+/// Extends a path to a pc by an edge, if the edge can be taken.
 fn go_on(
     body: &Body,
     touched: &Touched,
@@ -78,7 +78,7 @@ fn go_on(
     })
 }
 
-/// A way to a LOOP goes on behind all the turns that are left, where the turn is known.
+/// Extends a path to a LOOP by all remaining iterations, if the longest iteration is known.
 fn go_on_behind(body: &Body, rows: &Known, turns: &Reached, pc: u16, reach: &Reach) -> Option<Reach>
     requires below { pc < body.now.end }
     requires turns { AreTurns rows.now body.now.image.now body.now.r turns.now }
@@ -229,7 +229,7 @@ fn way_round(loops: &Loops, reached: &mut Reached, target: u16, pc: u16) -> Opti
     }
 }
 
-/// The longest turn that is found of the loop which the LOOP at a pc closes, if its counter is kept.
+/// The longest iteration found of the loop that the LOOP at a pc closes, if the iteration leaves its counter unchanged.
 fn find_turn(loops: &Loops, reached: &mut Reached, pc: u16) -> Option<Reach>
     requires above { loops.now.body.start ≤ pc }
     requires below { pc < loops.now.body.end }
@@ -291,7 +291,7 @@ fn note_turns(
     longest
 }
 
-/// The same; of far ways twice, since a loop may stand behind the one that it is in.
+/// The same, twice for far paths, since the code of a loop may come after that of the loop around it.
 fn note_all_turns(
     body: &Body,
     touched: &Touched,
@@ -358,7 +358,7 @@ fn pass_by(
     some_pass(body, rows, reached)
 }
 
-/// Whether on some way in a routine more steps are taken than a potential can say; far ways may go round loops whose bodies stand elsewhere.
+/// Whether some path in a routine takes more steps than the greatest potential. Far paths may go through loops whose bodies are elsewhere.
 pub(crate) fn steps_pass(
     alloc: Global,
     body: &Body,

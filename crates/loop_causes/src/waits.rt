@@ -11,8 +11,8 @@ use geos_causes::BackWay;
 use geos_code::Body;
 use geos_counters::Touching;
 
-/// The place of a piece, in the loop that a LOOP closes, which goes round with its own counter, where that of another is set and kept from
-/// there to it.
+/// An instruction of a piece, in the loop that a LOOP closes with its own counter, that sets the counter of another LOOP, and from which
+/// some path leaves it unchanged up to that LOOP.
 pub fn set_for(
     body: &Body,
     touching: &Touching,

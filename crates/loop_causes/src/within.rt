@@ -66,7 +66,7 @@ fn calls_touching(body: &Body, touching: &Touching, counter: u8, pc: u16) -> boo
     }
 }
 
-/// Whether control can come from one place to another, and keep the counter, if one is asked for.
+/// Whether some path leads from one instruction to another, and leaves the counter unchanged, if one is given.
 pub(crate) fn comes_round(
     body: &Body,
     touching: &Touching,
@@ -108,7 +108,7 @@ fn comes_but(
     trails.lead(body, touching, None, Some(but), from, to)
 }
 
-/// Whether the counter is kept behind a place on the way to another that is noted, and no edge of that is from a third.
+/// Whether the noted path to an instruction leaves the counter unchanged after another, and has no edge from a third.
 pub(crate) fn is_kept(
     body: &Body,
     touching: &Touching,
@@ -128,7 +128,7 @@ pub(crate) fn is_kept(
     at + 1 < body.end && trails.lead(body, touching, Some(counter), but, at + 1, to)
 }
 
-/// A place that the way to another comes from that is noted, on which the counter is kept behind that place, and no edge is from a third.
+/// An instruction on the noted path to another, after which the path leaves the counter unchanged, and has no edge from a third.
 pub(crate) fn kept_from(
     body: &Body,
     touching: &Touching,
@@ -254,7 +254,8 @@ fn note_touched(body: &Body, graph: &Graph, counter: u8, trails: &mut Trails)
     trails.go(graph, Some(counter), None);
 }
 
-/// A place of a piece where, within a turn of the loop that a LOOP closes, its counter is set, and kept from there to the LOOP.
+/// An instruction of a piece that sets the counter of a LOOP within an iteration of its loop, after which a path leaves it unchanged up to
+/// the LOOP.
 pub fn find_set_within(
     body: &Body,
     touching: &Touching,
@@ -282,8 +283,8 @@ pub fn find_set_within(
     }
 }
 
-/// A place of a piece where, within a turn of the loop that a LOOP closes, its counter is set, whatever it was, and kept from there to the
-/// LOOP.
+/// An instruction of a piece that sets the counter of a LOOP within an iteration of its loop, whatever the counter was, after which a path
+/// leaves it unchanged up to the LOOP.
 pub(crate) fn find_set_again(
     body: &Body,
     touching: &Touching,
@@ -337,7 +338,7 @@ pub(crate) fn find_touched_within(
     }
 }
 
-/// A call that touches the counter of a LOOP by which control goes round, and it is not set from there to the LOOP.
+/// A call that touches the counter of a LOOP on a cycle, if some path from the call to the LOOP does not set the counter.
 pub(crate) fn find_touched_before(
     body: &Body,
     touching: &Touching,

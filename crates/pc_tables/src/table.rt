@@ -12,7 +12,7 @@ use std::marker::Model;
 #[derive(Drop)]
 pub struct Table<T: Copy> {
     items: Vec<T>,
-    /// The item at each pc behind those.
+    /// The item at each pc after those.
     rest: T,
 }
 
@@ -27,7 +27,7 @@ impl<T: Copy> Model for Table<T> {
     ghost invariant = { λ t. record { few : length t.items.items ≤ 4096; room : 4096 ≤ vec_capacity t.items } };
 }
 
-/// Puts an item behind others until there are as many as there are pcs before one. There is room for them.
+/// Puts an item after others until there are as many as there are pcs before one. There is room for them.
 #[inline(never)]
 fn reach<T: Copy>(items: &mut Vec<T>, pc: u16, rest: T)
     requires few { vec_len items.old ≤ pc }
@@ -49,7 +49,7 @@ impl<T: Copy> Table<T> {
         Ok(Table { items, rest: item })
     }
 
-    /// A law: there is room for each pc that there may be.
+    /// Lemma: there is room for each pc that there may be.
     pub fn lengths(&self)
         ensures { length self.now ≡ 4096 }
     {

@@ -1,5 +1,5 @@
 //! Reads images of routines, checks them and runs their routines, as the lines on standard input say. Each line is printed again, and
-//! what it is answered behind it; the digits of an image are not printed.
+//! what it is answered after it; the digits of an image are not printed.
 //!
 //! | Line | Is answered |
 //! |---|---|
@@ -62,7 +62,7 @@ impl Trial {
         }
     }
 
-    /// Takes the bytes that a line spells.
+    /// Takes the bytes that a line encodes.
     fn take_digits(&mut self, rt: &HostRuntime, text: &str) -> io::Result<()> {
         for digits in text.split_whitespace() {
             match hex::decode(rt.alloc(), digits) {

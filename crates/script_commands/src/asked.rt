@@ -1,4 +1,4 @@
-//! Which calls the machine may be asked for.
+//! Which calls the machine admits.
 
 ghost use Rattle.std.specs.Prelude.{◌≡◌};
 ghost use Rattle.geos_verify.specs.Lists.{all2};
@@ -9,7 +9,7 @@ use geos_entry::admits_words;
 use geos_image::SlotState;
 use geos_verify::Checked;
 
-/// Whether a handle stands for the slot, or 0 where it is not borrowed.
+/// Whether a handle stands for the slot, or 0 if it is not borrowed.
 fn is_placed(state: SlotState, h: u16) -> bool
     ensures { result ≡ is_placed state h }
 {
@@ -24,7 +24,7 @@ fn are_placed(states: &[SlotState; 4], handles: &[u16; 4]) -> bool
     is_placed(s0, h0) & is_placed(s1, h1) & is_placed(s2, h2) & is_placed(s3, h3)
 }
 
-/// Whether the machine may be asked for the call, and handles are given for slots that are borrowed alone.
+/// Whether the machine admits the call, and exactly the borrowed slots have handles.
 pub(crate) fn may_ask(checked: &Checked, call: &Call) -> bool
     ensures { result ≡ may_ask checked.now call.now }
 {
@@ -37,7 +37,7 @@ pub(crate) fn may_ask(checked: &Checked, call: &Call) -> bool
     )
 }
 
-/// The call, if the machine may be asked for it.
+/// The call, if the machine admits it.
 pub(crate) fn if_admitted(checked: &Checked, call: Call) -> Option<Call>
     ensures { result ≡ if_admitted checked.now call }
 {

@@ -11,8 +11,8 @@ use geos_text::{first_line, first_word, without_comment};
 use geos_verify::Checked;
 use std::alloc::{AllocError, Global};
 
-/// The bad lines of a script, in order: each that says something, but is no command that may be asked for. `AllocError` where
-/// the allocator refuses memory.
+/// The bad lines of a script, in order: each that is not blank, and is no command that is admitted. `AllocError` if the allocator refuses
+/// memory.
 pub fn bad_lines<'a>(
     alloc: Global,
     checked: &Checked,
@@ -35,7 +35,7 @@ pub fn bad_lines<'a>(
     Ok(bad)
 }
 
-/// Of lines that say something, those that are bad behind all before them, whatever numbers their names will stand for.
+/// Of lines that are not blank, those that are bad after all earlier ones, whatever numbers their names will have.
 fn bad_of<'a>(
     alloc: Global,
     checked: &Checked,
@@ -56,8 +56,8 @@ fn bad_of<'a>(
     Ok(bad)
 }
 
-/// The bad lines of a script whose lines may write names, in order: each that is bad behind all lines before it, whatever
-/// numbers their names will stand for. `AllocError` where the allocator refuses memory.
+/// The bad lines of a script whose lines may write names, in order: each that is bad after all earlier lines, whatever numbers their names
+/// will have. `AllocError` if the allocator refuses memory.
 pub fn bad_lines_with_names<'a>(
     alloc: Global,
     checked: &Checked,

@@ -15,7 +15,7 @@ use geos_entry::admits_words;
 use geos_image::SlotState;
 use geos_verify::Checked;
 
-/// How many words stand in front of the first that names a block.
+/// The number of words before the first that names a block.
 fn numbers_in(words: &[&str]) -> usize
     ensures numbers { before_blocks (texts words.now) ≡ texts (take result words.now) }
     ensures blocks { from_blocks (texts words.now) ≡ texts (drop result words.now) }
@@ -28,14 +28,14 @@ fn numbers_in(words: &[&str]) -> usize
     count
 }
 
-/// The call of the routine of that name on those numbers, which are followed by the blocks that it lends, if the machine may be asked for it.
+/// The call of the routine of that name on these numbers and the blocks that follow them, if the machine admits it.
 pub fn call_on(checked: &Checked, name: &str, words: &[&str]) -> Option<Call>
     ensures { result ≡ call_named checked.now name.now (texts words.now) }
 {
     call_named(checked, name.as_bytes(), Words::Apart(words))
 }
 
-/// Whether a public routine has the name, and may be called on the numbers in front of blocks.
+/// Whether a public routine has the name, and may be called on the numbers before the blocks.
 fn takes(checked: &Checked, name: &str, numbers: &[&str]) -> bool
     ensures { result ≡ takes checked.now name.now (before_blocks (texts numbers.now)) }
 {

@@ -14,7 +14,7 @@ pub struct Call {
 /// A command that may be carried out.
 #[derive(Clone, Copy)]
 pub enum Command {
-    /// A call that the machine may be asked for.
+    /// A call that the machine admits.
     Call(Call),
     /// The VM file keeps one of its pairs of directories.
     Commit(How),

@@ -22,8 +22,7 @@ pub fn first_commit(points: &[Point]) -> Option<usize>
     points.iter().position(|point| commits(point.instr.opcode))
 }
 
-/// Whether the command may commit: a call, where the first instruction that commits stands in
-/// front of the end of its routine.
+/// Whether the command may commit: it is a commit, or a call, and the first instruction that commits is before the end of the routine.
 pub fn may_commit(checked: &Checked, first: Option<usize>, command: &Command) -> bool
     requires admitted { IsAdmitted checked.now command.now }
     requires first { first ≡ first_commit checked.now.points }

@@ -16,16 +16,16 @@ use geos_verify::Checked;
 use std::alloc::{AllocError, Global};
 use vm_file::How;
 
-/// How a word that is put out is written.
+/// How an output word is written.
 #[derive(Clone, Copy)]
 pub enum Writing {
     /// In decimal, on a line.
     Decimal,
-    /// In four hexadecimal digits behind `0x`, on a line.
+    /// In four hexadecimal digits after `0x`, on a line.
     Hex,
     /// As a number from -32,768 to 32,767, on a line.
     Signed,
-    /// As bytes of a text: one below 256, else two, the low one first. All that a call puts out are one line.
+    /// As bytes of a text: one byte if it is below 256, otherwise two, the low one first. The whole output of a call is one line.
     Text,
 }
 
@@ -34,7 +34,7 @@ pub enum Writing {
 pub struct Form {
     /// How each word is.
     pub writing: Writing,
-    /// Whether each line stands behind its command: `NAME n.. @h..: `, where zeros at the end of the words are left out.
+    /// Whether each line begins with its command: `NAME n.. @h..: `, without zeros at the end of the words.
     pub label: bool,
 }
 
@@ -127,7 +127,7 @@ fn lines_in(
     Ok(text)
 }
 
-/// The bytes on a line behind a front, if there are any.
+/// A line of a prefix and the bytes, if there are any bytes.
 fn on_a_line(alloc: Global, front: &[u8], bytes: &[u8]) -> Result<Vec<u8>, AllocError>
     ensures { IfOk result (λ text. text.items ≡ on_a_line front.now bytes.now) }
 {
@@ -140,7 +140,7 @@ fn on_a_line(alloc: Global, front: &[u8], bytes: &[u8]) -> Result<Vec<u8>, Alloc
     Ok(text)
 }
 
-/// What is printed plainly, in a form: behind a label.
+/// The plain output in a form, after a label.
 fn in_form(
     alloc: Global,
     writing: Writing,
@@ -172,7 +172,7 @@ fn words_said(words: &[u16; 8]) -> usize
     count
 }
 
-/// Each number in decimal, behind a sign.
+/// Each number in decimal, after a sign.
 fn put_each(out: &mut Vec<u8>, sign: &str, numbers: &[u16]) -> Result<(), AllocError>
     ensures { OnOk result (out.new.items ≡ out.old.items ++ flat_map (λ n. sign.now ++ decimal n) numbers.now) }
 {
@@ -241,7 +241,7 @@ pub fn shown_in(
     in_form(alloc, form.writing, &label, plain)
 }
 
-/// The word that a command put out first, by what it prints plainly.
+/// The first word of a command's output, from its plain text.
 pub fn first_put_out(plain: &[u8]) -> Option<u16>
     ensures { result ≡ first_put_out plain.now }
 {

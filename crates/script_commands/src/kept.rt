@@ -1,4 +1,4 @@
-//! A name under which a word is kept, with a mark by which most others are told apart at once.
+//! A name under which a word is stored, with a mark that distinguishes it from most others at once.
 
 ghost use Rattle.std.specs.Prelude.{◌≡◌, bytes_eq};
 ghost use Rattle.script_commands.specs.Marks.{mark_of};
@@ -36,7 +36,7 @@ impl<'a> Kept<'a> {
         }
     }
 
-    /// Whether it is kept under this name, which has this mark.
+    /// Whether it is stored under this name, which has this mark.
     pub(crate) fn is_under(&self, name: &[u8], mark: u32) -> bool
         requires { mark ≡ mark_of name.now }
         ensures { result ≡ bytes_eq self.now.name.now name.now }

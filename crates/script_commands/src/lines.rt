@@ -17,7 +17,7 @@ use geos_verify::Checked;
 use std::alloc::Global;
 use vm_file::How;
 
-/// The routine of that name; `None` where the image has none.
+/// The routine of that name; `None` if the image has none.
 pub fn routine_named(image: &Image, name: &[u8]) -> Option<u16>
     ensures named { result ≡ routine_named image.now name.now }
     ensures within { IfSome result (λ r. r < length image.now.routines) }
@@ -40,7 +40,7 @@ pub(crate) fn names_block(word: &[u8]) -> bool
     }
 }
 
-/// The handle that a word writes behind `@`.
+/// The handle after the `@` of a word.
 fn handle_of(word: &[u8]) -> Option<u16>
     ensures { result ≡ handle_of word.now }
 {
@@ -94,7 +94,7 @@ fn from_blocks<'a>(numbers: Words<'a>) -> Words<'a>
     rest
 }
 
-/// The handle for a slot, and the words behind it: the first of them says it where the slot is borrowed; else it is 0.
+/// The handle for a slot, and the words after it. A borrowed slot takes the first word; the handle of any other slot is 0.
 fn next_handle<'a>(state: SlotState, blocks: Words<'a>) -> Option<(u16, Words<'a>)>
     ensures none { IfNone result (next_handle state (words_of blocks.entry) ≡ None) }
     ensures some { IfSome result (λ next. next_handle state (words_of blocks.entry) ≡ Some (next.0, words_of next.1)) }
@@ -107,7 +107,7 @@ fn next_handle<'a>(state: SlotState, blocks: Words<'a>) -> Option<(u16, Words<'a
     Some((handle, behind))
 }
 
-/// The handles that words write, one for each slot that is borrowed, in order, with 0 for the others; `None` where there are
+/// The handles that words write, one for each slot that is borrowed, in order, with 0 for the others; `None` if there are
 /// fewer or more.
 fn placed(states: &[SlotState; 4], blocks: Words) -> Option<[u16; 4]>
     ensures { result ≡ placed states.now (words_of blocks.entry) }
@@ -123,7 +123,7 @@ fn placed(states: &[SlotState; 4], blocks: Words) -> Option<[u16; 4]>
     }
 }
 
-/// The call of the routine of that name on those numbers and the blocks behind them, if the machine may be asked for it.
+/// The call of the routine of that name on these numbers and the blocks after them, if the machine admits it.
 pub(crate) fn call_named(checked: &Checked, name: &[u8], numbers: Words) -> Option<Call>
     ensures { result ≡ call_named checked.now name.now (words_of numbers.entry) }
 {
@@ -158,7 +158,7 @@ fn how_named(word: &[u8]) -> Option<How>
     }
 }
 
-/// The command of a line without its comment, if it may be asked for.
+/// The command of a line without its comment, if it is admitted.
 pub(crate) fn command_of(checked: &Checked, line: &[u8]) -> Option<Command>
     ensures { result ≡ command_of checked.now (words line.now) }
 {

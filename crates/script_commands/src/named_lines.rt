@@ -10,7 +10,7 @@ use geos_text::{first_line, first_word, without_comment};
 use geos_verify::Checked;
 use std::alloc::{AllocError, Global};
 
-/// The most lines of a script that keep a word: names are looked up one after another.
+/// The most lines of a script that store a word, since a name is looked up by a linear search.
 pub const MOST_KEPT: usize = 1_024;
 
 /// A line that says something: its number, counted from 1, and its text without the comment.
@@ -39,7 +39,7 @@ pub fn lines_said<'a>(alloc: Global, script: &'a [u8]) -> Result<Vec<Line<'a>>, 
     Ok(said)
 }
 
-/// Whether a line is bad behind lines that keep these names, whatever numbers they will stand for.
+/// Whether a line is bad after lines that store these names, whatever numbers the names will have.
 pub(crate) fn is_bad(
     alloc: Global,
     checked: &Checked,

@@ -1,4 +1,4 @@
-//! Names for words that calls put out, and lines of a script that write them.
+//! Names for words that calls output, and lines of a script that write them.
 
 ghost use Rattle.std.specs.Prelude.{◌≡◌, ◌++◌, IfOk, IfNone, IfSome, OnOk, None, Some, MatchBool, MatchOption, option_map};
 ghost use Rattle.geos_text.specs.Words.{words};
@@ -12,7 +12,7 @@ use geos_text::{first_word, put_numbered};
 use geos_verify::Checked;
 use std::alloc::{AllocError, Global};
 
-/// The word that the name stands for, if it does: of two that are kept under it the later counts.
+/// The word stored under the name, if there is one: the later of two.
 fn word_of(name: &[u8], names: &[Kept]) -> Option<u16>
     ensures { result ≡ word_of name.now (names_of names.now) }
 {
@@ -25,7 +25,7 @@ fn word_of(name: &[u8], names: &[Kept]) -> Option<u16>
     None
 }
 
-/// Writes the number that stands in the place of `$name`, and any other word as it is. `false` where the name has none.
+/// Writes the number of `$name`, and any other word unchanged. `false` if the name has no number.
 fn put_number(out: &mut Vec<u8>, names: &[Kept], word: &[u8]) -> Result<bool, AllocError>
     ensures { IfOk result (λ put. MatchBool put
         (option_map (λ number. out.old.items ++ number) (number_in_place (names_of names.now) word.now) ≡ Some out.new.items)
@@ -46,7 +46,7 @@ fn put_number(out: &mut Vec<u8>, names: &[Kept], word: &[u8]) -> Result<bool, Al
     }
 }
 
-/// Writes a word with the number in the place of a name, which may stand behind an `@`. `false` where the name has none.
+/// Writes a word with the number of its name, which may follow an `@`. `false` if the name has no number.
 fn put_in_place(out: &mut Vec<u8>, names: &[Kept], word: &[u8]) -> Result<bool, AllocError>
     ensures { IfOk result (λ put. MatchBool put
         (option_map (λ own. out.old.items ++ own) (word_in_place (names_of names.now) word.now) ≡ Some out.new.items)
@@ -67,7 +67,7 @@ fn is_arrow(word: &[u8]) -> bool
     word == b"->".as_slice()
 }
 
-/// The line up to `->`, with numbers in the place of names. `None` where a name has none.
+/// The line up to `->`, with numbers in the place of names. `None` if a name has none.
 fn in_place(alloc: Global, names: &[Kept], line: &[u8]) -> Result<Option<Vec<u8>>, AllocError>
     ensures { IfOk result (λ text. MatchOption text
         (in_place (names_of names.now) (words line.now) ≡ None)
@@ -88,7 +88,7 @@ fn in_place(alloc: Global, names: &[Kept], line: &[u8]) -> Result<Option<Vec<u8>
     Ok(Some(text))
 }
 
-/// The line behind `->`, if it is there.
+/// The part of a line after `->`, if there is one.
 fn behind_arrow(line: &[u8]) -> Option<&[u8]>
     ensures none { IfNone result (behind_arrow (words line.now) ≡ None) }
     ensures some { IfSome result (λ rest. behind_arrow (words line.now) ≡ Some (words rest.now)) }
@@ -109,7 +109,7 @@ fn is_name_byte(byte: u8) -> bool
     byte.is_ascii_alphanumeric() || byte == b'_'
 }
 
-/// Whether a word may be a name: it has letters, digits and underscores alone.
+/// Whether a word may be a name: it has only letters, digits and underscores.
 pub fn is_name(word: &[u8]) -> bool
     ensures { result ≡ is_name word.now }
 {
@@ -129,8 +129,8 @@ fn one_name(line: &[u8]) -> Option<&[u8]>
     }
 }
 
-/// The name under which a line without its comment keeps a word: letters, digits and underscores behind `->`. `None` where
-/// nothing or anything else stands there.
+/// The name under which a line without its comment stores a word: letters, digits and underscores after `->`. `None` if there is nothing
+/// or something different.
 pub fn kept_name(line: &[u8]) -> Option<&[u8]>
     ensures none { IfNone result (kept_name (words line.now) ≡ None) }
     ensures some { IfSome result (λ name. kept_name (words line.now) ≡ Some name.now) }
@@ -138,7 +138,7 @@ pub fn kept_name(line: &[u8]) -> Option<&[u8]>
     one_name(behind_arrow(line)?)
 }
 
-/// Whether a command may stand on the line: a `->` stands behind a call, and one name behind it.
+/// Whether the line may have the command: only a call may have a `->`, and one name follows that.
 fn may_keep(line: &[u8], command: &Command) -> bool
     ensures { result ≡ may_keep (words line.now) command.now }
 {
@@ -148,7 +148,7 @@ fn may_keep(line: &[u8], command: &Command) -> bool
     }
 }
 
-/// The command of a line without its comment, if it may be asked for: that of the line with numbers in the place of names.
+/// The command of a line without its comment, if it is admitted: that of the line with numbers in place of names.
 pub fn command_in(
     alloc: Global,
     checked: &Checked,

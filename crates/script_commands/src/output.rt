@@ -66,7 +66,7 @@ pub fn flush<W: Write>(out: &mut Counted<W>) -> Result<(), ScriptFault>
     }
 }
 
-/// Flushes the writer, unless nothing was asked of it since it was flushed, or ever.
+/// Flushes the writer, unless it was not used since the last flush, or ever.
 pub fn give<W: Write>(out: &mut Counted<W>) -> Result<(), ScriptFault>
     ensures bytes { Keeps (W.contents out.old.stream) (W.contents out.new.stream) }
     ensures given { IfOk result (λ _. IsGiven out.new.asked out.new.flushed) }
@@ -80,7 +80,7 @@ pub fn give<W: Write>(out: &mut Counted<W>) -> Result<(), ScriptFault>
     flush(out)
 }
 
-/// Gives what was printed before a command, where that may commit (`ahead`), or the one before it may have.
+/// Flushes the output before a command that may commit (`ahead`), or after one that may have (`behind`).
 pub fn give_before<W: Write>(
     behind: bool,
     ahead: bool,

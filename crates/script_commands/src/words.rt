@@ -14,7 +14,7 @@ pub(crate) enum Words<'a> {
     Apart(&'a [&'a str]),
 }
 
-/// The first word, and those behind it; `None` where there is none.
+/// The first word, and those after it; `None` if there is no word.
 pub(crate) fn first_of<'a>(words: Words<'a>) -> Option<(&'a [u8], Words<'a>)>
     ensures none { IfNone result (words_of words.entry ≡ []) }
     ensures some { IfSome result (λ r. words_of words.entry ≡ r.0.now ∷ words_of r.1) }

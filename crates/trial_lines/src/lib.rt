@@ -1,5 +1,5 @@
 //! What trials share. A trial reads lines of calls, each a word and numbers, and carries them out one after the other. It prints each
-//! line again, and what the call answers behind it; lines that are blank or only a comment are printed as they are.
+//! line again, and what the call answers after it; lines that are blank or only a comment are printed as they are.
 //!
 //! `times N WORD ..` makes a call so often, and `WORD_each FROM TO ..` makes the call `WORD HANDLE ..` for each handle from one to
 //! another. Both tell how the answers run.

@@ -8,11 +8,11 @@ pub const MOST_NUMBERS: usize = 8;
 /// A line with a call.
 #[derive(Clone, Copy)]
 pub struct Line<'a> {
-    /// How often the call is made: the number behind a first word `times`, or 1.
+    /// How often the call is made: the number after a first word `times`, or 1.
     pub times: u32,
     /// The word that names the call.
     pub word: &'a str,
-    /// The numbers behind it; those that are missing are 0.
+    /// The numbers after it; those that are missing are 0.
     pub numbers: [u32; MOST_NUMBERS],
 }
 
@@ -23,7 +23,7 @@ pub enum Reading<'a> {
     Blank,
     /// It has a call.
     Call(Line<'a>),
-    /// It has a word behind the first one that is no number in decimal digits, or more than eight of them.
+    /// It has a word after the first one that is no number in decimal digits, or more than eight of them.
     NotACall,
 }
 
@@ -54,7 +54,7 @@ impl<'a> Line<'a> {
         }
     }
 
-    /// The call that this word and the numbers behind it make.
+    /// The call that this word and the numbers after it make.
     fn of_words(times: u32, word: &'a str, digits: SplitWhitespace<'a>) -> Option<Line<'a>> {
         let mut numbers = [0; MOST_NUMBERS];
         let mut places = numbers.iter_mut();
@@ -86,7 +86,7 @@ impl<'a> Line<'a> {
         self.word_at(place).min(255) as u8
     }
 
-    /// What stands in the line's word behind this beginning.
+    /// What stands in the line's word after this beginning.
     pub fn word_behind(&self, beginning: &str) -> Option<&'a str> {
         self.word.strip_prefix(beginning)
     }

@@ -2,7 +2,7 @@
 
 use std::fmt;
 
-/// Numbers, of which equal ones behind one another are shown once, with their count.
+/// Numbers, of which equal ones after one another are shown once, with their count.
 #[derive(Drop)]
 pub struct Runs<'a, T>(pub &'a [T]);
 
@@ -27,7 +27,7 @@ impl<T: Copy + PartialEq + fmt::Display> fmt::Display for Runs<'_, T> {
     }
 }
 
-/// Shows a number that stands so often behind itself.
+/// Shows a number that stands so often after itself.
 fn fmt_run<T: Copy + fmt::Display, W: fmt::Write>(
     f: &mut fmt::Formatter<W>,
     number: T,

@@ -4,18 +4,18 @@ use crate::answer::Answer;
 use std::alloc::{AllocError, Global};
 use std::fmt;
 
-/// Answers behind one another that are equal, or that are numbers which ascend by one.
+/// Answers after one another that are equal, or that are numbers which ascend by one.
 #[derive(Drop)]
 struct Run<R> {
     first: Answer<R>,
-    /// How many answers stand behind the first one.
+    /// How many answers stand after the first one.
     others: u32,
     /// Whether they ascend.
     ascends: bool,
 }
 
 impl<R: PartialEq> Run<R> {
-    /// Whether this answer belongs to the run, behind its last one.
+    /// Whether this answer belongs to the run, after its last one.
     fn goes_on_with(&self, answer: &Answer<R>) -> bool {
         if self.ascends {
             return self.is_next(answer);
@@ -23,7 +23,7 @@ impl<R: PartialEq> Run<R> {
         *answer == self.first || (self.others == 0 && self.is_next(answer))
     }
 
-    /// Whether this answer is the number behind the last one of a run that ascends.
+    /// Whether this answer is the number after the last one of a run that ascends.
     fn is_next(&self, answer: &Answer<R>) -> bool {
         match (&self.first, answer) {
             (Answer::Number(first), Answer::Number(next)) => u64::from(*first)
@@ -64,7 +64,7 @@ impl<R: PartialEq + Drop> Series<R> {
         Series { runs }
     }
 
-    /// Puts an answer behind the others.
+    /// Puts an answer after the others.
     pub fn add(&mut self, answer: Answer<R>) -> Result<(), AllocError> {
         if let Some(run) = self.runs.last_mut()
             && run.goes_on_with(&answer)

@@ -101,7 +101,7 @@ impl<D: Device + Drop> VmBlocks<D> {
         // What `open` would find after a stop now.
         ensures stop { D.medium.honest self.now.file.device → (c : List ℕ) → D.medium.may_leave self.now.file.device c
             → Finds D.medium.image self.now.file c }
-        // That is what the model has as kept.
+        // That is what the model has committed.
         ensures kept { (s : Store) (m : Memory) → IsMemoryOf D.medium self.now s m → D.medium.honest self.now.file.device
             → (c : List ℕ) → D.medium.may_leave self.now.file.device c → OpensAsKept m.file.kept c }
         ensures found { (s : Store) (m : Memory) → IsMemoryOf D.medium self.now s m → D.medium.honest self.now.file.device
@@ -151,7 +151,7 @@ impl<D: Device + Drop> VmBlocks<D> {
         }
     }
 
-    /// Whether a block is marked as changed; `false` where none has this handle.
+    /// Whether a block is marked as changed; `false` if none has this handle.
     pub fn marked(&self, handle: u16) -> bool
         ensures mark { result ≡ is_marked_in (held_at self.now handle) }
         // The model's mark of it, in each memory that it may have.

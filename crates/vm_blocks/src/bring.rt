@@ -70,9 +70,9 @@ impl<D: Device + Drop> VmBlocks<D> {
     }
 
     /// Brings a block into memory, and does not lock it: nothing changes where it is there.
-    /// `BadHandle` where none has this handle; `NoRoom` where no stretch of the region has room,
+    /// `BadHandle` if none has this handle; `NoRoom` if no stretch of the region has room,
     /// though every other block of the file that is neither marked nor locked was discarded;
-    /// `Disk` where the device fails, or gives bytes that are no heap under this handle. Then the
+    /// `Disk` if the device fails, or gives bytes that are no heap under this handle. Then the
     /// block is not in memory, and others may have been discarded.
     // Cold, so that calls on blocks that are there are laid out as the usual way.
     #[cold]

@@ -20,7 +20,7 @@ use block_handles::Blocks;
 use geos_terms::Name;
 use vm_file::{CommitError, Device, Directory, Entry, How, VmFile};
 
-/// The length of a listed block: as it is in memory, else as it is listed.
+/// The length of a listed block: as it is in memory, otherwise as it is listed.
 fn len_now(blocks: &Blocks, h: u16, held: Held) -> u16
     ensures { result ≡ len_now held (block_at blocks.now (vm_slot h)) }
 {
@@ -43,7 +43,7 @@ fn commit_file<D: Device + Drop>(
     ensures lists { Lists D.medium.image file.old }
     ensures legal { is_directory file.old.saved ≡ true }
 {
-    // what is known of both directories is known to those alone who look at them
+    // recalls the facts of the file's directories
     let _ = file.current();
     let _ = file.saved();
     file.commit(how, cur, &Resident { blocks })
@@ -112,11 +112,11 @@ impl<D: Device + Drop> VmBlocks<D> {
     }
 
     /// Keeps one of the pairs that `How` names, of the blocks as they are now and of the saved
-    /// directory, and goes on with it: no block is marked any more. Where it reverts, no block of
+    /// directory, and continues with it: no block is marked any more. Where it reverts, no block of
     /// the file stays in memory.
     ///
-    /// `Unsure` where the file is unsure, `TooBig` where it is sure and the pair is longer than
-    /// the area, `Memory` where an allocation is refused: nothing has happened. `Disk` where the
+    /// `Unsure` if the file is unsure, `TooBig` if it is sure and the pair is longer than
+    /// the area, `Memory` if an allocation is refused: nothing has happened. `Disk` if the
     /// device fails, or gives bytes that are no heap under their handle: blocks and marks are
     /// as they were, and the file may be unsure.
     pub fn commit(&mut self, blocks: &mut Blocks, how: How) -> Result<(), CommitError>

@@ -19,8 +19,8 @@ impl<D: Device + Drop> VmBlocks<D> {
             → IsTied D.medium self.now t }
     {}
 
-    /// What those changes make of the model's memory, and of blocks that are discarded; and where
-    /// room may be wanting in it.
+    /// What those changes make of the model's memory, and of discarded blocks; and when a call may
+    /// be refused for room.
     pub fn memory_may_change(&self)
         ensures others { OthersMayChange D.medium self.now }
         ensures discarded { BlocksMayGo D.medium self.now }

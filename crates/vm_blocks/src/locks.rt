@@ -24,7 +24,7 @@ use vm_file::Device;
 
 impl<D: Device + Drop> VmBlocks<D> {
     /// Brings a block into memory and locks it once more: it stays there, at its place, until
-    /// its count is 0 again. `BadHandle` where none has this handle, `Locked` where its count is
+    /// its count is 0 again. `BadHandle` if none has this handle, `Locked` if its count is
     /// 65,535; `NoRoom` and `Disk` as `bring` has them.
     pub fn vlock(&mut self, blocks: &mut Blocks, handle: u16) -> Result<(), LockError>
         requires { IsTied D.medium self.old blocks.old }
@@ -91,7 +91,7 @@ impl<D: Device + Drop> VmBlocks<D> {
         requires { IsChanged D.medium self.old blocks.now handle }
         ensures tied { IsTied D.medium self.new blocks.now }
         ensures marks { self.new ≡ with_held self.old handle (option_map marked (held_at self.old handle)) }
-        // Each memory that the model may have before it goes on, with the mark.
+        // Each memory that the model may have before it continues, with the mark.
         ensures memory { (m : Memory) → IsMemoryOf D.medium self.old blocks.now m
             → IsMemoryOf D.medium self.new blocks.now (with_mark m handle true) }
     {

@@ -48,7 +48,7 @@ impl<D: Device + Drop> VmBlocks<D> {
     }
 
     /// Makes a block of 64 bytes without a chunk under the lowest free handle, in memory and
-    /// marked, but not locked. `NoHandle` where all 1,024 are listed; then `NoRoom` where no
+    /// marked, but not locked. `NoHandle` if all 1,024 are listed; then `NoRoom` if no
     /// stretch of the region has room, though every block of the file that is neither marked
     /// nor locked was discarded.
     pub fn vnew_unlocked(&mut self, blocks: &mut Blocks, uid: u16) -> Result<u16, NewError>
@@ -119,8 +119,8 @@ impl<D: Device + Drop> VmBlocks<D> {
         }
     }
 
-    /// Frees a block: it is listed and mapped no more, and leaves the memory. `BadHandle` where
-    /// none has this handle, `Locked` where it is locked; nothing changes then.
+    /// Frees a block: it is listed and mapped no more, and leaves the memory. `BadHandle` if
+    /// none has this handle, `Locked` if it is locked; nothing changes then.
     pub fn vfree(&mut self, blocks: &mut Blocks, handle: u16) -> Result<(), FreeError>
         requires { IsTied D.medium self.old blocks.old }
         ensures tied { IsTied D.medium self.new blocks.new }

@@ -15,7 +15,7 @@ use vm_file::Device;
 
 impl<D: Device + Drop> VmBlocks<D> {
     /// The lowest handle that is not listed: a block that is not in memory has its handle, too.
-    /// `None` where all 1,024 are.
+    /// `None` if all 1,024 are.
     pub fn lowest(&self) -> Option<u16>
         ensures found { IfSome result (IsLowestUnlisted self.now) }
         ensures none { IfNone result (AllListed self.now) }
@@ -38,11 +38,11 @@ impl<D: Device + Drop> VmBlocks<D> {
         }
     }
 
-    /// The lowest handle above `start` of a block with this user ID; 0 where there is none.
+    /// The lowest handle above `start` of a block with this user ID; 0 if there is none.
     pub fn find(&self, start: u16, uid: u16) -> u16
         ensures found { result ≢ 0 → IsNextWith self.now start uid result }
         ensures none { result ≡ 0 → NoneWith self.now start uid }
-        // Its row of the table of calls, but for the user ID of groups, which that refuses.
+        // Its row of the table of calls, except for the user ID of groups, which that refuses.
         ensures row { uid ≢ group_uid → (s : Store) → IsTied D.medium self.now s
             → DoesRow D.medium (vfind start uid) (Ok result) self.now s self.now s }
     {

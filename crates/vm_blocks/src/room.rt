@@ -36,8 +36,9 @@ impl<D: Device + Drop> VmBlocks<D> {
         }
     }
 
-    /// The handle, but this, of the first block behind the gap that may be discarded. So the gap
-    /// gets wider, mostly, and goes round the region. Passes each block once at most.
+    /// The handle of the first block after the gap that may be discarded, other than `but`. So the
+    /// gap usually gets wider, and moves through the region cyclically. Visits each block at most
+    /// once.
     fn idle_behind_gap(&self, blocks: &Blocks, but: u16) -> Option<u16>
         ensures { IfSome result (λ h. IsHandle h × (h ≢ but) × (is_idle self.now blocks.now h ≡ true)) }
     {
@@ -53,7 +54,7 @@ impl<D: Device + Drop> VmBlocks<D> {
         None
     }
 
-    /// The handle, but this, of a block that may be discarded: the first one behind the gap, and
+    /// The handle, but this, of a block that may be discarded: the first one after the gap, and
     /// the lowest where the walk there finds none.
     fn first_idle(&self, blocks: &Blocks, but: u16) -> Option<u16>
         ensures found { IfSome result (λ h. IsHandle h × (h ≢ but) × (is_idle self.now blocks.now h ≡ true)) }
@@ -71,7 +72,7 @@ impl<D: Device + Drop> VmBlocks<D> {
     }
 
     /// Discards one block that is in memory, neither marked nor locked, and another than that of
-    /// the handle `but`, of which 0 names none; nothing else changes. `false` where there is none:
+    /// the handle `but`, of which 0 names none; nothing else changes. `false` if there is none:
     /// nothing has changed.
     pub fn discard_one(&self, blocks: &mut Blocks, but: u16) -> bool
         requires { IsTied D.medium self.now blocks.old }
@@ -102,8 +103,8 @@ impl<D: Device + Drop> VmBlocks<D> {
     }
 
     /// Makes a block of `size` zero bytes, not locked, under a name that is not in use, and
-    /// discards others for it, one after another, until there is room: none where there is room
-    /// at once. `NoRoom` where there is none though all that may be were discarded.
+    /// discards others for it, one after another, until there is room: none if there is room
+    /// at once. `NoRoom` if there is none though all that may be were discarded.
     pub fn make_room(&self, blocks: &mut Blocks, name: Name, size: u32) -> Result<(), NoRoom>
         requires tied { IsTied D.medium self.now blocks.old }
         requires handle { IsHandle name.h }
@@ -126,8 +127,8 @@ impl<D: Device + Drop> VmBlocks<D> {
         }
     }
 
-    /// Grows a block to `size` bytes, zeros behind its own, and discards others for it, one after
-    /// another, until there is room: none where there is room at once. `NoRoom` where there is
+    /// Grows a block to `size` bytes, zeros after its own, and discards others for it, one after
+    /// another, until there is room: none if there is room at once. `NoRoom` if there is
     /// none though all that may be were discarded.
     pub fn grow_room(&self, blocks: &mut Blocks, name: Name, size: u32) -> Result<(), NoRoom>
         requires tied { IsTied D.medium self.now blocks.old }

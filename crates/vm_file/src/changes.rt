@@ -12,7 +12,7 @@ const PIECE: usize = 16_384;
 /// How many bytes are compared at least: fewer are sooner written than read.
 const LEAST_COMPARED: usize = 65_536;
 
-/// Whether these bytes stand on the device from an offset on. They are read into a buffer.
+/// Whether the device has these bytes from an offset on. It reads them into a buffer.
 fn stands<D: Device>(device: &mut D, at: u64, bytes: &[u8], buffer: &mut [u8]) -> Result<bool, Disk>
     requires room { length bytes.now ≤ length buffer.old }
     requires within { at + length bytes.now ≤ length (D.medium.image device.old) }
@@ -29,7 +29,7 @@ fn stands<D: Device>(device: &mut D, at: u64, bytes: &[u8], buffer: &mut [u8]) -
     }
 }
 
-/// How many bytes at the front stand on the device from an offset on, in whole pieces.
+/// How many of the first bytes the device has from an offset on, in whole pieces.
 fn front_that_stands<D: Device>(device: &mut D, at: u64, bytes: &[u8]) -> Result<usize, Disk>
     requires range { at + length bytes.now < 2 ^ 34 }
     requires within { at + length bytes.now ≤ length (D.medium.image device.old) }
@@ -51,7 +51,7 @@ fn front_that_stands<D: Device>(device: &mut D, at: u64, bytes: &[u8]) -> Result
     Ok(n)
 }
 
-/// Where the bytes at the end begin that stand on the device, in whole pieces.
+/// The start of the last bytes that the device has already, in whole pieces.
 fn end_of_change<D: Device>(device: &mut D, at: u64, bytes: &[u8]) -> Result<usize, Disk>
     requires range { at + length bytes.now < 2 ^ 34 }
     requires within { at + length bytes.now ≤ length (D.medium.image device.old) }
@@ -74,8 +74,8 @@ fn end_of_change<D: Device>(device: &mut D, at: u64, bytes: &[u8]) -> Result<usi
     Ok(n)
 }
 
-/// Writes bytes from an offset on, and makes them last. It reads what stands there from both ends to the first piece that differs, and
-/// writes only what lies between.
+/// Writes bytes from an offset on, and makes them last. It reads the device from both ends to the first piece that differs, and writes
+/// only the bytes between.
 fn write_changes<D: Device>(device: &mut D, at: u64, bytes: &[u8]) -> Result<(), Disk>
     requires range { at + length bytes.now < 2 ^ 34 }
     requires within { at + length bytes.now ≤ length (D.medium.image device.old) }
@@ -99,8 +99,8 @@ fn write_changes<D: Device>(device: &mut D, at: u64, bytes: &[u8]) -> Result<(),
     write_durably(device, base, &rest[..n])
 }
 
-/// Writes bytes from an offset on, and makes them last. Where it is known what the device has there, and they are many, bytes at both ends
-/// that stand there already are read and not written again.
+/// Writes bytes from an offset on, and makes them last. If the contents of the device there are known, and the bytes are many, it reads
+/// the bytes at both ends first, and does not write those again that the device has.
 pub(crate) fn write_area<D: Device>(
     device: &mut D,
     at: u64,

@@ -1,4 +1,4 @@
-//! What a file stands on: bytes that last.
+//! Devices: the bytes of a file, which last after a sync.
 ghost use Rattle.std.specs.Prelude.{◌≡◌, ◌+◌, ◌≤◌, ℕ, List, length, OnOk};
 ghost use Rattle.geos_terms.specs.Bytes.{AreBytes};
 ghost use Rattle.lmem_raw.specs.Bytes.{part, with_part};
@@ -34,7 +34,7 @@ pub trait Device {
     fn failures(&self) -> u64
         ensures { result ≡ medium.failed self.now };
 
-    /// Reads the bytes from an offset on. `Disk` where the device fails, as it does past its
+    /// Reads the bytes from an offset on. `Disk` if the device fails, as it does past its
     /// length; what `into` holds then is not said.
     fn read_at(&mut self, at: u64, into: &mut [u8]) -> Result<(), Disk>
         ensures within { OnOk result (at + length into.old ≤ length (medium.image self.old)) }
@@ -43,8 +43,8 @@ pub trait Device {
         ensures cause { Counts (medium.failed self.old) (medium.failed self.new) result }
         ensures call { medium.reads self.old at into.new result self.new };
 
-    /// Writes bytes from an offset on. `Disk` where the device fails, as it does past its
-    /// length: then any bytes may stand in that range, and the others stay. They last once a
+    /// Writes bytes from an offset on. `Disk` if the device fails, as it does past its
+    /// length: then that range may have any bytes, and the others stay. They last after a
     /// `sync` has succeeded; a stop before that may leave any bytes in the range.
     fn write_at(&mut self, at: u64, bytes: &[u8]) -> Result<(), Disk>
         ensures within { OnOk result (at + length bytes.now ≤ length (medium.image self.old)) }
@@ -53,7 +53,7 @@ pub trait Device {
         ensures cause { Counts (medium.failed self.old) (medium.failed self.new) result }
         ensures call { medium.writes self.old at bytes.now result self.new };
 
-    /// Makes last what was written: after it a stop leaves what reads give. `Disk` where the
+    /// Makes last what was written: after it a stop leaves what reads give. `Disk` if the
     /// device fails.
     fn sync(&mut self) -> Result<(), Disk>
         ensures durable { medium.honest self.old → OnOk result (Only (medium.image self.new) (medium.may_leave self.new)) }

@@ -56,7 +56,7 @@ impl Directory {
     }
 
     /// Whether handles ascend to 1,024, lengths are legal block sizes, the map block is 0 or a
-    /// block that is no group, the map item's group is 0 or a group, and the item is 0 where
+    /// block that is no group, the map item's group is 0 or a group, and the item is 0 if
     /// there is no group.
     pub fn is_legal(&self) -> bool
         ensures { result ≡ is_directory self.now }

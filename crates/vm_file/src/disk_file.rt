@@ -34,7 +34,7 @@ impl FileDevice {
     ghost use Rattle.vm_file.specs.DiskFile.{failures_of, len_of, may_lack};
 
     /// Makes a file of so many zero bytes, which lasts, as the folder's entry with its name
-    /// does. `Disk` where the system refuses, as it does where the path exists already: that
+    /// does. `Disk` if the system refuses, as it does where the path exists already: that
     /// file is not touched. A file that it made is removed then, if the system lets it.
     pub fn create<R: Files<File = File>>(
         rt: &R,
@@ -56,7 +56,7 @@ impl FileDevice {
         Ok(FileDevice::new(file, len))
     }
 
-    /// Opens a file that is there, to read and to write. `Disk` where the system refuses, as
+    /// Opens a file that is there, to read and to write. `Disk` if the system refuses, as
     /// for a path that is missing or a folder.
     pub fn open<R: Files<File = File>>(
         rt: &R,
@@ -72,8 +72,8 @@ impl FileDevice {
         FileDevice::of(file)
     }
 
-    /// Opens a file that is there, to read alone: each write of it fails. `Disk` where the
-    /// system refuses, as for a path that is missing.
+    /// Opens an existing file only to read: each write of it fails. `Disk` if the system refuses,
+    /// as for a path that is missing.
     pub fn open_read_only<R: Files<File = File>>(
         rt: &R,
         _alloc: Global,
@@ -100,7 +100,7 @@ impl FileDevice {
         }
     }
 
-    /// A device on an open file, of the length that the system tells. `Disk` where it does not tell.
+    /// A device on an open file, of the length that the system tells. `Disk` if it does not tell.
     pub fn of(file: File) -> Result<FileDevice, Disk>
         ensures failures { IfOk result (λ device. failures_of device ≡ 0) }
         ensures may_lack { IfOk result (λ device. may_lack device ≡ false) }
@@ -109,7 +109,7 @@ impl FileDevice {
         Ok(FileDevice::new(file, len))
     }
 
-    /// A device on an open file, which gets so many bytes: those that it lacks are zeros. `Disk` where the
+    /// A device on an open file, which gets so many bytes: those that it lacks are zeros. `Disk` if the
     /// system refuses.
     pub fn of_length(file: File, len: u64) -> Result<FileDevice, Disk>
         ensures len { IfOk result (λ device. len_of device ≡ len) }
@@ -203,7 +203,7 @@ impl Device for FileDevice {
         Ok(())
     }
 
-    /// Makes last what was written. `Disk` where the system refuses, and from then on until
+    /// Makes last what was written. `Disk` if the system refuses, and from then on until
     /// something is written.
     fn sync(&mut self) -> Result<(), Disk>
         ensures reads { ReadsOnly medium self.old self.new }

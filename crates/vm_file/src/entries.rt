@@ -67,7 +67,7 @@ pub(crate) fn directory_length(directory: &Directory) -> u32
     8 + entries_length(&directory.entries)
 }
 
-/// Where the bytes of the block with a handle stand, counted from the first entry.
+/// The offset of the bytes of the block with a handle, from the first entry.
 pub(crate) fn place_in(entries: &[Entry], h: u16) -> u32
     requires { length entries.now ≤ MOST_BLOCKS }
     ensures exact { result ≡ place_in entries.now h }

@@ -27,8 +27,8 @@ pub enum OpenError {
     Memory,
 }
 
-/// Why a commit was not made. After the first three the file is as it was; after `Disk` it is
-/// sure of the pair that it kept, or unsure.
+/// Why a commit was not made. After the first three the file is unchanged; after `Disk` it is
+/// sure of its previous pair, or unsure.
 #[derive(Clone, Copy, Debug, Drop, PartialEq, Eq, Error)]
 pub enum CommitError {
     /// The file is unsure: an earlier commit failed when it wrote the selector.

@@ -10,7 +10,7 @@ use geos_terms::is_block_size;
 /// The offset of the first byte of a field that is cut or breaks its rule.
 pub(crate) type Fault = u64;
 
-/// The word at `k` of the bytes that stand at an offset.
+/// The word at `k` of the bytes from an offset on.
 #[tactic(auto, unfolding(geos_terms::specs::Bytes::word))]
 pub(crate) fn word_at(bytes: &[u8], at: u64, k: usize) -> Result<u16, Fault>
     requires { (at < 2 ^ 32) × (k < 2 ^ 10) }
@@ -23,7 +23,7 @@ pub(crate) fn word_at(bytes: &[u8], at: u64, k: usize) -> Result<u16, Fault>
     }
 }
 
-/// Handle, user ID and length of a block behind one with handle `last`.
+/// Handle, user ID and length of a block after one with handle `last`.
 #[tactic(auto, unfolding(crate::specs::Reading::head_at))]
 pub(crate) fn head_at(bytes: &[u8], last: u16, at: u64) -> Result<Entry, Fault>
     requires { at < 2 ^ 32 }
@@ -55,7 +55,7 @@ pub(crate) fn count_at(bytes: &[u8], at: u64) -> Result<u16, Fault>
     }
 }
 
-/// The map block, and the group and chunk of the map item, behind these entries.
+/// The map block, and the group and chunk of the map item, after these entries.
 #[tactic(auto, unfolding(crate::specs::Reading::maps_at))]
 pub(crate) fn maps_at(bytes: &[u8], entries: &[Entry], at: u64) -> Result<(u16, (u16, u16)), Fault>
     requires { at < 2 ^ 32 }

@@ -31,7 +31,7 @@ pub struct VmFile<D: Device + Drop> {
     second: bool,
     sure: bool,
     /// How many commits have succeeded one after the other, up to 255. After two it has written both areas itself, so that what it
-    /// reads there is what lasts: where a write or a `sync` failed, that need not be so.
+    /// reads there is what lasts. If a write or a `sync` failed, what lasts may differ.
     commits: u8,
     current: PlacedDirectory,
     saved: Directory,
@@ -64,7 +64,7 @@ impl<D: Device + Drop> VmFile<D> {
     /// Makes a file on a device: writes the header, the selector and two empty directories,
     /// and ends with a `sync`. `area` is a legal area size, and the device has room for the file
     /// (`device_length`). The device comes back with each refusal: `Disk`
-    /// where it fails; then any bytes may stand in the first 1,040.
+    /// if it fails; then its first 1,040 bytes may be any bytes.
     pub fn create(alloc: Global, mut device: D, area: u32) -> Result<VmFile<D>, (D, CreateError)>
         requires area { is_area area ≡ true }
         requires room { 1024 + 2 * area ≤ length (D.medium.image device) }
@@ -108,18 +108,18 @@ impl<D: Device + Drop> VmFile<D> {
         }
     }
 
-    /// Opens the file that a device holds. It begins with a `sync`, goes over the selected
-    /// area through a buffer of one block, and keeps the two directories alone. The device
+    /// Opens the file that a device holds. It begins with a `sync`, reads the selected area
+    /// through a buffer of one block, and holds only the two directories in memory. The device
     /// comes back with each refusal: `BadFile` with the offset of the first byte of the first
-    /// field, in file order, that is cut or breaks its rule; `Disk` where the device fails;
-    /// `Memory` where an allocation is refused.
+    /// field, in file order, that is cut or breaks its rule; `Disk` if the device fails;
+    /// `Memory` if an allocation is refused.
     pub fn open(alloc: Global, mut device: D) -> Result<VmFile<D>, (D, OpenError)>
         ensures exact { D.medium.honest device → MatchResult result
             (λ file. file_at (D.medium.image device) ≡ Ok (file_of D.medium.image file))
             (λ e. IsRefused e.1 (file_at (D.medium.image device))) }
         ensures sure { IfOk result (λ file. file.sure ≡ true) }
         ensures durable { D.medium.honest device → IfOk result (λ file. Only (D.medium.image file.device) (D.medium.may_leave file.device)) }
-        // `BadFile` and `Memory` come behind the sync, so a stop then leaves what was read.
+        // `BadFile` and `Memory` come after the sync, so a stop then leaves what was read.
         ensures begins { MatchResult result
             (λ file. BeginsWithSync D.medium ⊥ device file.device)
             (λ e. BeginsWithSync D.medium (e.1 ≡ OpenError.Disk) device e.0) }
@@ -194,7 +194,7 @@ impl<D: Device + Drop> VmFile<D> {
     }
 
     /// Reads the bytes of a block of the current directory straight into `into`, which is as
-    /// long as its entry says. `Disk` where the device fails, and then it is not said what `into`
+    /// long as its entry says. `Disk` if the device fails, and then it is not said what `into`
     /// holds, or where it gives bytes that are no heap with that handle.
     pub fn block(&mut self, handle: u16, into: &mut [u8]) -> Result<(), Disk>
         requires { HasBlock self.old.current handle (length into.old) }
@@ -258,22 +258,22 @@ impl<D: Device + Drop> VmFile<D> {
         cur.is_legal() && are_there(source, self.current.directory(), &cur.entries)
     }
 
-    /// Keeps one of the pairs that `How` names. `source` has blocks that are in memory: a block
-    /// of `cur` is taken from there where it is resident there, else it is the one that the
+    /// Commits one of the pairs that `How` names. `source` has blocks that are in memory: a block
+    /// of `cur` is taken from there if it is resident there, otherwise it is the one that the
     /// current directory has at that handle.
     ///
-    /// The memory for the pair is taken first, and given back at the end. What the pair needs
-    /// from the device is read. Then the pair's bytes are written to the area that is not selected,
-    /// without those at both ends that this file wrote there before, and made to last; and so is
-    /// the selector. A stop at any moment leaves a file in which `open` finds the pair from before
+    /// The memory for the pair is allocated first, and released at the end. The pair's other blocks
+    /// are read from the device. Then the pair's bytes are written to the area that is not selected,
+    /// without those at both ends that this file wrote there before, and synced; then the selector is
+    /// written and synced. A stop at any moment leaves a file in which `open` finds the previous pair
     /// or the new one.
     ///
-    /// `Unsure` where the file is unsure, `TooBig` where it is sure and the pair is longer than
-    /// the area, `Memory` where an allocation is refused: nothing has happened. `Disk` where
+    /// `Unsure` if the file is unsure, `TooBig` if it is sure and the pair is longer than
+    /// the area, `Memory` if an allocation is refused: nothing has happened. `Disk` if
     /// the device fails, or a block that is read from a device which is not honest is no heap.
-    /// The file is then sure of the pair from before or, where it failed when the selector was
-    /// written, unsure: `open` finds the one or the other, and the file goes on with the pair
-    /// from before.
+    /// The file is then sure of the previous pair or, if the device failed when the selector was
+    /// written, unsure: `open` finds one of both pairs, and the file continues with the previous
+    /// one.
     pub fn commit<S: Source>(
         &mut self,
         how: How,
@@ -304,7 +304,7 @@ impl<D: Device + Drop> VmFile<D> {
         }
     }
 
-    /// Appends a directory: its blocks are those of the source where they are resident there, else
+    /// Appends a directory: its blocks are those of the source where they are resident there, otherwise
     /// those of the current directory.
     fn spell_current<S: Source>(
         &mut self,

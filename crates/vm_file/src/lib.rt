@@ -1,5 +1,4 @@
-//! VM files: blocks with lasting handles, kept on a device of which a stop may lose what was
-//! written last.
+//! VM files: blocks with lasting handles, on a device that may lose its last writes if it stops.
 //!
 //! A file has two areas, and a selector that names one of them; an area holds two directories
 //! with their blocks, the current one and the saved one. docs/FILES.md has the layout and says

@@ -19,7 +19,7 @@ pub struct MemoryDevice {
 impl MemoryDevice {
     ghost use Rattle.vm_file.specs.Memory.{bytes_of, failures_of, medium};
 
-    /// A device of so many zero bytes. `AllocError` where the allocator has no memory.
+    /// A device of so many zero bytes. `AllocError` if the allocator has no memory.
     #[tactic(auto, using(crate::proofs::SteadyDevices::memory_steady))]
     pub fn new(alloc: Global, len: u64) -> Result<MemoryDevice, AllocError>
         ensures bytes { IfOk result (λ device. bytes_of device ≡ replicate len 0) }
@@ -70,7 +70,7 @@ impl Device for MemoryDevice {
         self.failures
     }
 
-    /// Reads the bytes from an offset on. `Disk` past the length, and there alone.
+    /// Reads the bytes from an offset on. `Disk` exactly past the length.
     fn read_at(&mut self, at: u64, into: &mut [u8]) -> Result<(), Disk>
         ensures within { OnOk result (at + length into.old ≤ length (bytes_of self.old)) }
         ensures past { OnErr result (length (bytes_of self.old) < at + length into.old) }
@@ -88,7 +88,7 @@ impl Device for MemoryDevice {
         Ok(())
     }
 
-    /// Writes bytes from an offset on. `Disk` past the length, and there alone.
+    /// Writes bytes from an offset on. `Disk` exactly past the length.
     fn write_at(&mut self, at: u64, bytes: &[u8]) -> Result<(), Disk>
         ensures within { OnOk result (at + length bytes.now ≤ length (bytes_of self.old)) }
         ensures past { OnErr result ((length (bytes_of self.old) < at + length bytes.now) × (bytes_of self.new ≡ bytes_of self.old)) }

@@ -69,8 +69,7 @@ fn read_selector<D: Device>(device: &mut D) -> Result<u8, OpenError>
     }
 }
 
-/// Reads the current and the saved directory that stand from `base` on, through a buffer of
-/// one block.
+/// Reads the current and the saved directory from `base` on, through a buffer of one block.
 fn read_pair<D: Device>(
     alloc: Global,
     device: &mut D,

@@ -13,8 +13,7 @@ use std::marker::Model;
 /// One place for each handle, and for 0.
 const PLACES: usize = MOST_BLOCKS + 1;
 
-/// A legal directory, and where the bytes of each of its blocks stand, counted from the first
-/// entry.
+/// A legal directory, and the offset of each of its blocks' bytes from the first entry.
 #[derive(Drop)]
 pub(crate) struct PlacedDirectory {
     directory: Directory,
@@ -33,7 +32,7 @@ impl Model for PlacedDirectory {
     ghost invariant = { λ p. ArePlaces p.directory.entries.items p.places };
 }
 
-/// Writes where the blocks of these entries stand, from the last to the first.
+/// Writes the offsets of the blocks of these entries, from the last to the first.
 fn put_places(places: &mut [u32], entries: &[Entry])
     requires long { length places.old ≡ 1025 }
     requires few { length entries.now ≤ MOST_BLOCKS }
@@ -69,14 +68,14 @@ impl PlacedDirectory {
         PlacedDirectory { directory, places }
     }
 
-    /// The directory alone.
+    /// Only the directory.
     pub(crate) fn directory(&self) -> &Directory
         ensures { result.now ≡ self.now }
     {
         &self.directory
     }
 
-    /// Where the bytes of the block with a handle stand, counted from the first entry.
+    /// The offset of the bytes of the block with a handle, from the first entry.
     pub(crate) fn place(&self, h: u16) -> u32
         requires { h ≤ 1024 }
         ensures { result ≡ place_in self.now.entries.items h }

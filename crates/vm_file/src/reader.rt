@@ -85,7 +85,7 @@ pub(crate) fn read_block<D: Device>(
     }
 }
 
-/// Reads the block at an offset, behind one with handle `last`, into a buffer of the greatest
+/// Reads the block at an offset, after one with handle `last`, into a buffer of the greatest
 /// block's size.
 fn read_entry<D: Device>(
     device: &mut D,
@@ -181,7 +181,7 @@ fn read_count<D: Device>(device: &mut D, at: u64, end: u64) -> Result<u16, OpenE
     }
 }
 
-/// Reads the map block, and the group and chunk of the map item, behind these entries.
+/// Reads the map block, and the group and chunk of the map item, after these entries.
 fn read_maps<D: Device>(
     device: &mut D,
     entries: &[Entry],

@@ -98,9 +98,8 @@ pub(crate) struct Placed<'a> {
     pub(crate) from: u64,
 }
 
-/// Appends the entry and the bytes of a block: those of the source where they are resident
-/// there, else those that are read from where the kept directory's entry of the same handle
-/// has them.
+/// Appends the entry and the bytes of a block: those of the source if they are resident there,
+/// otherwise those that are read at the stored directory's entry of the same handle.
 fn spell_block<D: Device, S: Source>(
     device: &mut D,
     kept: &Placed<'_>,
@@ -136,7 +135,7 @@ fn spell_block<D: Device, S: Source>(
     }
 }
 
-/// Appends blocks, one behind the other, as `spell_block` does one.
+/// Appends blocks, one after the other, as `spell_block` does one.
 fn spell_blocks<D: Device, S: Source>(
     device: &mut D,
     kept: &Placed<'_>,

@@ -1,4 +1,4 @@
-//! The instructions, and what the verifier is told at each of them.
+//! The instructions, with their rows and potentials.
 
 ghost use Rattle.std.specs.Prelude.{◌≡◌, ◌<◌, ◌≤◌, ◌^◌, length, true, false, Some, None, IfOk};
 ghost use Rattle.std.specs.List.{list_all};
@@ -195,7 +195,7 @@ fn bare(instr: &Instr, potential: Potential) -> Point
     }
 }
 
-/// Each instruction with the row and the potential that the bytes give it. Flags places behind others whose row is that of the place
+/// Each instruction with the row and the potential that the bytes give it. Flags places after others whose row is that of the place
 /// before.
 #[inline(never)]
 pub(crate) fn points_at(
@@ -250,7 +250,7 @@ pub(crate) fn bare_at(
     Ok(points)
 }
 
-/// So many rows. Flags rows behind others that are the row before.
+/// So many rows. Flags rows after others that are the row before.
 #[inline(never)]
 pub(crate) fn rows_at(
     alloc: Global,

@@ -156,7 +156,7 @@ pub(crate) fn row_at(borrows: bool, bytes: &[u8], at: usize) -> Result<Row, Faul
     fields_at(borrows, bytes, at)
 }
 
-/// Whether the bytes of a row stand at both offsets, and are the same.
+/// Whether both offsets have the bytes of a row, and these are the same.
 #[inline(always)]
 fn are_same(bytes: &[u8], before: usize, at: usize) -> bool
     requires order { before ≤ at }
@@ -166,8 +166,8 @@ fn are_same(bytes: &[u8], before: usize, at: usize) -> bool
     at + ROW_LEN <= bytes.len() && bytes[before..before + ROW_LEN] == bytes[at..at + ROW_LEN]
 }
 
-/// Makes `row` the one that stands at `at`. Where `before` is another offset, `row` is what stands there: it is read anew only
-/// where the bytes differ, which between two instructions they mostly don't. The answer is whether `row` stayed.
+/// Makes `row` the one at offset `at`. If `before` is another offset, `row` is the one there: it is read anew only if the bytes
+/// differ, which between two instructions they mostly don't. Returns whether `row` stayed.
 #[inline(always)]
 pub(crate) fn row_like(
     borrows: bool,
@@ -193,7 +193,7 @@ pub(crate) fn row_like(
 }
 
 /// The numbers of a potential.
-// All at once: of a `Result` with the coefficients alone LLVM makes the potential by pieces in memory.
+// All at once: of a `Result` with only the coefficients LLVM makes the potential by pieces in memory.
 #[tactic(auto, unfolding(crate::specs::Reading::potential_at))]
 #[inline(always)]
 fn numbers_at(bytes: &[u8], at: usize) -> Result<Potential, Fault>
