@@ -99,6 +99,8 @@ class Request:
             return True
         if self.command in ("asm", "budget", "fmt"):
             return len(self.plain) > 1 and self.words[self.plain[1]] != "-"
+        if self.command == "check":
+            return any(is_vm_file(self.words[place]) for place in self.plain[:1])
         return self.command in ("new", "run", "put", "get", "dump", "map")
 
     def inputs(self) -> list[int]:
@@ -114,6 +116,17 @@ class Request:
         if self.command == "call" and len(self.plain) == 1 and not self.asks_for_help:
             return True
         return any(self.words[place] == "-" for place in self.inputs())
+
+
+def is_vm_file(word: str) -> bool:
+    """Whether the path leads to a regular file that begins as a VM file does."""
+    try:
+        if not stat.S_ISREG(os.stat(word).st_mode):
+            return False
+        with open(word, "rb") as file:
+            return file.read(4) == b"GVM1"
+    except (OSError, ValueError):
+        return False
 
 
 @dataclass
