@@ -1,0 +1,376 @@
+"""Random sources of the structured language. Most of them compile; the compiler refuses those that run out of words, pointers or slots."""
+
+import random
+from dataclasses import dataclass, field, replace
+
+KINDS = {"mlock": "mem", "mnew": "mem", "vlock": "vm", "vnew": "vm", "ilock": "group"}
+FRAME = """struct Pair { left: word, right: word, tag: byte, more: byte[3] }
+const K = {};
+"""
+
+
+@dataclass(frozen=True)
+class Known:
+    """What statements may use at a place: words, those of them that can't be set, blocks with their kinds, pointers with their block, their
+    bytes and whether they lead to a `Pair`; whether a loop, and a path of refusals, is around; and whether `why` is known."""
+
+    words: tuple[str, ...] = ()
+    fixed: tuple[str, ...] = ()
+    blocks: dict[str, str] = field(default_factory=dict)
+    pointers: dict[str, tuple[str, int, bool]] = field(default_factory=dict)
+    loops: int = 0
+    result: bool = False
+    fails: bool = True
+    why: bool = False
+
+    def with_word(self, *names: str) -> "Known":
+        return replace(self, words=(*self.words, *names))
+
+    def without_pointers(self, kind: str) -> "Known":
+        """The same after a call that may move chunks of blocks of a kind."""
+        left = {p: at for p, at in self.pointers.items() if self.blocks.get(at[0]) != kind}
+        return replace(self, pointers=left)
+
+
+@dataclass
+class Routine:
+    """A routine that can be called: its parameters, each `word`, a kind of block or `pointer`, and whether it has a result or is refused."""
+
+    name: str
+    parameters: list[str]
+    result: bool
+    fails: bool
+
+
+class Writer:
+    """A source that is written at random."""
+
+    def __init__(self, seed: int) -> None:
+        self.random = random.Random(seed)
+        self.names = 0
+        self.routines: list[Routine] = []
+        self.publics: list[tuple[str, bool]] = []
+
+    def pick(self, items):
+        return self.random.choice(list(items))
+
+    def chance(self, share: float) -> bool:
+        return self.random.random() < share
+
+    def number(self, low: int, high: int) -> int:
+        return self.random.randint(low, high)
+
+    def fresh(self, letter: str) -> str:
+        self.names += 1
+        return f"{letter}{self.names}"
+
+    def program(self) -> str:
+        parts = [FRAME.replace("{}", str(self.number(1, 8)))]
+        parts += [self.private() for _ in range(self.number(0, 2))]
+        parts += [self.public(n) for n in range(self.number(1, 2))]
+        return "\n".join(parts)
+
+    def private(self) -> str:
+        name, known, written, kinds = self.fresh("f"), Known(), [], []
+        for _ in range(self.number(0, 2)):
+            word = self.fresh("a")
+            known = known.with_word(word)
+            written.append(word)
+            kinds.append("word")
+        if self.chance(0.5):
+            block, kind = self.fresh("b"), self.pick(["mem", "mem", "vm", "group"])
+            known = replace(known, blocks={block: kind})
+            written.append(f"{block}: {kind}")
+            kinds.append(kind)
+            if self.chance(0.4):
+                pointer = self.fresh("p")
+                known = replace(known, pointers={pointer: (block, 8, True)})
+                written.append(f"{pointer}: Pair in {block}")
+                kinds.append("pointer")
+        result = self.chance(0.5)
+        known = replace(known, result=result, fails=result or self.chance(0.4))
+        body, after = self.statements(known, self.number(1, 3), 2)
+        if result:
+            body += f"\nreturn {self.value(after, 1)};"
+        self.routines.append(Routine(name, kinds, result, known.fails))
+        return f"fn {name}({', '.join(written)}){' -> r' if result else ''}{' ?' if known.fails else ''} {{\n{body}\n}}\n"
+
+    def public(self, n: int) -> str:
+        lent = self.chance(0.2)
+        known = Known(words=("a", "b", "n"), fixed=("n",), blocks={"lent": "vm"} if lent else {})
+        body = self.statements(known, self.number(3, 8), 1)[0]
+        handler = ""
+        if self.chance(0.4):
+            handler = f" else {{\n{self.statements(replace(known, why=True), 2, 3)[0]}\n}}"
+        self.publics.append((f"main{n}", lent))
+        return f"pub fn main{n}(a, b, n <= 6{', lent: vm' if lent else ''}) {{\n{body}\n}}{handler}\n"
+
+    # Values and conditions.
+
+    def word(self, known: Known) -> str:
+        return self.pick(known.words) if known.words else "vgetmap()"
+
+    def index(self, known: Known) -> str:
+        return self.pick(["0", "1", "2", "16", self.word(known)])
+
+    def value(self, known: Known, depth: int) -> str:
+        forms = ["number", "word", "word", "word"]
+        if depth:
+            forms += ["+", "+", "-", "&", "*", ">>", "/", "%", "<<", "call"]
+            forms += ["access"] * 3 if known.pointers else []
+            forms += ["ask"] if known.blocks else []
+        form = self.pick(forms)
+        if form == "number":
+            return self.pick(["0", "1", "2", "3", "8", "16", "18", "100", "65535", "0x1f", "0b11", "'a'", "K"])
+        if form in ("+", "-"):
+            sides = [self.changing(known, depth - 1), self.value(known, depth - 1)]
+            self.random.shuffle(sides)
+            return f"({sides[0]} {form} {sides[1]})"
+        constants = {"&": [1, 3, 255], "*": [2, 3, 10], ">>": [1, 2, 8], "<<": [1, 3], "/": [2, 8, 256], "%": [2, 4, 16]}
+        if form in constants:
+            return f"({self.changing(known, depth - 1)} {form} {self.pick(constants[form])})"
+        if form == "access":
+            return self.access(known)
+        if form == "ask":
+            block = self.pick(known.blocks)
+            return f"{self.pick(['lsize', 'lsize', 'cacount'])}({block}, {self.pick(['16', '16', '18', self.word(known)])})?"
+        if form == "call":
+            return self.call(known, True) or self.word(known)
+        return self.word(known)
+
+    def changing(self, known: Known, depth: int) -> str:
+        """A value that is no constant."""
+        value = self.value(known, depth)
+        return value if value[0] not in "0123456789'K" else self.word(known)
+
+    def access(self, known: Known) -> str:
+        name = self.pick(known.pointers)
+        least, pair = known.pointers[name][1:]
+        if pair and self.chance(0.7):
+            return name + self.pick([".left", ".right", ".tag", ".more[1]", f".more[{self.index(known)}]?"])
+        letter = self.pick("wb")
+        if least >= 2 and self.chance(0.4):
+            return f"{name}.{letter}[{self.number(0, least - 2)}]"
+        return f"{name}.{letter}[{self.pick(['0', '3', '6', f'({self.word(known)} & 7)', self.word(known)])}]?"
+
+    def call(self, known: Known, result: bool) -> str | None:
+        fitting = [r for r in self.routines if r.result == result]
+        self.random.shuffle(fitting)
+        for routine in fitting:
+            arguments = self.arguments(routine, known)
+            if arguments is not None:
+                return f"{routine.name}({', '.join(arguments)}){'?' if routine.fails else ''}"
+        return None
+
+    def arguments(self, routine: Routine, known: Known) -> list[str] | None:
+        arguments: list[str] = []
+        block = ""
+        for kind in routine.parameters:
+            if kind == "word":
+                arguments.append(self.value(known, 1))
+            elif kind == "pointer":
+                fitting = [p for p, at in known.pointers.items() if at[0] == block and at[2]]
+                if not fitting:
+                    return None
+                arguments.append(self.pick(fitting))
+            else:
+                fitting = [b for b, its in known.blocks.items() if its == kind]
+                if not fitting:
+                    return None
+                block = self.pick(fitting)
+                arguments.append(block)
+        return arguments
+
+    def condition(self, known: Known, depth: int = 1) -> str:
+        form = self.random.random()
+        if depth and form < 0.15:
+            return f"{self.condition(known, 0)} {self.pick(['&&', '||'])} {self.condition(known, 0)}"
+        if depth and form < 0.2:
+            return f"!({self.condition(known, 0)})"
+        alike = [(a, b) for a in known.blocks for b in known.blocks if a != b and known.blocks[a] == known.blocks[b]]
+        if alike and form < 0.5:
+            return f"{self.pick(['same', 'differ'])}({', '.join(self.pick(alike))})"
+        return f"{self.changing(known, 1)} {self.pick(['==', '!=', '<', '<=', '>', '>='])} {self.value(known, 1)}"
+
+    # Statements. Each gives its text, and what is known after it.
+
+    def statements(self, known: Known, count: int, depth: int) -> tuple[str, Known]:
+        lines = []
+        if known.why:
+            lines.append("out(why)?;")
+            known = replace(known, why=False)
+        for _ in range(count):
+            text, known = self.statement(known, depth)
+            lines.append(text)
+        return "\n".join(lines), known
+
+    def statement(self, known: Known, depth: int) -> tuple[str, Known]:
+        forms = ["out"] * 3 + ["let", "let", "set", "set", "called", "file", "item"]
+        if depth < 4:
+            forms += ["branch", "branch", "attempt", "scope", "count", "repeat", "lock", "lock", "lock"]
+        if known.blocks:
+            forms += ["chunk", "chunk", "array", "fetch", "fetch", "fetch"]
+        if known.pointers:
+            forms += ["store"] * 4 + ["copy"]
+        return getattr(self, self.pick(forms))(known, depth)
+
+    def ended(self, call: str, known: Known, depth: int) -> str:
+        """A call that may be refused, with `?` or a handler."""
+        if self.chance(0.7):
+            return f"{call}?;"
+        if known.loops and self.chance(0.5):
+            return f"{call} else {self.pick(['break', 'continue'])};"
+        return f"{call} else {{\n{self.statements(replace(known, why=True, pointers={}), 1, depth + 2)[0]}\n}}"
+
+    def out(self, known: Known, depth: int) -> tuple[str, Known]:
+        return f"out({self.value(known, 2)})?;", known
+
+    def let(self, known: Known, depth: int) -> tuple[str, Known]:
+        if len(known.words) > 3:
+            return self.set(known, depth)
+        name = self.fresh("x")
+        return f"let {name} = {self.value(known, 2)};", known.with_word(name)
+
+    def set(self, known: Known, depth: int) -> tuple[str, Known]:
+        able = [w for w in known.words if w not in known.fixed]
+        return (f"{self.pick(able)} = {self.value(known, 2)};" if able else "out(7)?;"), known
+
+    def branch(self, known: Known, depth: int) -> tuple[str, Known]:
+        body = self.statements(known, self.number(1, 2), depth + 1)[0]
+        if self.chance(0.4):
+            body += "\n" + self.leave(known)
+        other = f" else {{\n{self.statements(known, 1, depth + 1)[0]}\n}}" if self.chance(0.4) else ""
+        return f"if {self.condition(known)} {{\n{body}\n}}{other}", self.after(known)
+
+    def after(self, known: Known) -> Known:
+        """What is known after statements that may have moved chunks."""
+        return replace(known, pointers={}) if self.chance(0.8) else known
+
+    def leave(self, known: Known) -> str:
+        leaves = ["break;", "break;", "continue;"] if known.loops else []
+        leaves.append(f"return {self.value(known, 0)};" if known.result else "return;")
+        if known.fails:
+            leaves.append(f"fail {self.number(1, 30)};")
+        return self.pick(leaves)
+
+    def attempt(self, known: Known, depth: int) -> tuple[str, Known]:
+        inner = replace(known, fails=True)
+        body = self.statements(inner, self.number(1, 3), depth + 1)[0]
+        other = self.statements(replace(known, why=True, pointers={}), 1, depth + 1)[0]
+        return f"try {{\n{body}\nif {self.word(known)} == 77 {{ fail 9; }}\n}} else {{\n{other}\n}}", self.after(known)
+
+    def scope(self, known: Known, depth: int) -> tuple[str, Known]:
+        return f"{{\n{self.statements(known, 2, depth + 1)[0]}\n}}", self.after(known)
+
+    def iterations(self, known: Known, depth: int, words: tuple[str, ...]) -> str:
+        """The body of a loop, and its `else`."""
+        inner = replace(known, words=(*known.words[-3:], *words), fixed=(*known.fixed, *words), loops=known.loops + 1)
+        body = self.statements(replace(inner, pointers={}) if self.chance(0.6) else inner, self.number(1, 3), depth + 1)[0]
+        other = f" else {{\n{self.statements(replace(known, pointers={}), 1, depth + 1)[0]}\n}}" if self.chance(0.3) else ""
+        return f"{{\n{body}\n}}{other}"
+
+    def count(self, known: Known, depth: int) -> tuple[str, Known]:
+        name, word = self.fresh("i"), self.word(known)
+        spans = [f"0..{self.number(1, 4)}", f"2..{self.number(3, 8)} step 2", f"({word} & 3)..({word} & 7)", "1..3"]
+        spans += ["0..n", "1..n", "1..n", "K..n", f"n..({word} & 7)"] if "n" in known.words else []
+        return f"for {name} in {self.pick(spans)} {self.iterations(known, depth, (name,))}", self.after(known)
+
+    def repeat(self, known: Known, depth: int) -> tuple[str, Known]:
+        head = f"while {self.condition(known, 0)}" if self.chance(0.7) else "loop"
+        return f"{head} max {self.number(1, 4)} {self.iterations(known, depth, ())}", self.after(known)
+
+    def lock(self, known: Known, depth: int) -> tuple[str, Known]:
+        form, block = self.pick(["mlock", "mnew", "mnew", "vlock", "vnew", "ilock"]), self.fresh("b")
+        kind, names, inner = KINDS[form], block, known
+        handle = self.pick(["1", "2", "1", self.word(known)])
+        if form in ("mnew", "vnew"):
+            name = self.fresh("h")
+            inner = inner.with_word(name)
+            call = f"{form}({name}{', ' + self.pick(['5', '6', '65280']) if form == 'vnew' else ''})"
+        elif form == "ilock":
+            pointer, least = self.fresh("p"), self.pick([0, 2, 8])
+            inner = replace(inner, pointers=inner.pointers | {pointer: (block, least, False)})
+            names += f", {pointer}"
+            call = f"ilock({handle}, {self.pick(['16', '16', '18', handle])}, {least})"
+        else:
+            call = f"{form}({handle})"
+        inner = replace(inner, blocks=inner.blocks | {block: kind})
+        first = ""
+        if form in ("mnew", "vnew") and self.chance(0.7):
+            chunk = self.fresh("c")
+            first = f"let {chunk} = lalloc({block}, {self.pick([8, 8, 9, 20])})?;\n"
+            inner = inner.with_word(chunk)
+        body = first + self.statements(inner, self.number(2, 5), depth + 1)[0]
+        if self.chance(0.7):
+            return f"{call}? as {names} {{\n{body}\n}}", self.after(known)
+        other = self.statements(replace(known, why=True, pointers={}), 1, depth + 1)[0]
+        return f"{call} as {names} {{\n{body}\n}} else {{\n{other}\n}}", self.after(known)
+
+    def called(self, known: Known, depth: int) -> tuple[str, Known]:
+        call = self.call(known, False)
+        return (f"{call};", self.after(known)) if call else self.out(known, depth)
+
+    def chunk_of(self, known: Known) -> str:
+        return self.pick(["16", "16", "16", "18", self.word(known)])
+
+    def fetch(self, known: Known, depth: int) -> tuple[str, Known]:
+        if len(known.pointers) > 2:
+            return self.out(known, depth)
+        block, name, pair = self.pick(known.blocks), self.fresh("p"), self.chance(0.5)
+        least = 8 if pair else self.pick([0, 1, 2, 8])
+        size = "Pair" if pair else str(least)
+        call = f"deref({block}, {self.chunk_of(known)}, {size})"
+        if self.chance(0.25):
+            call = f"caelt({block}, {self.chunk_of(known)}, {self.pick(['0', '1', self.word(known)])}, {size})"
+        return f"let {name} = {call}?;", replace(known, pointers=known.pointers | {name: (block, least, pair)})
+
+    def chunk(self, known: Known, depth: int) -> tuple[str, Known]:
+        block = self.pick(known.blocks)
+        at, moved = self.chunk_of(known), known.without_pointers(known.blocks[block])
+        if self.chance(0.3):
+            able = [w for w in known.words if w not in known.fixed] or ["a"]
+            return f"{self.pick(able)} = lalloc({block}, {self.pick(['8', '9', '2', self.word(known)])})?;", moved
+        calls = [f"lins({block}, {at}, {self.index(known)}, {self.index(known)})", f"lfree({block}, {at})"]
+        calls += [f"ldel({block}, {at}, {self.index(known)}, {self.index(known)})", f"lrealloc({block}, {at}, {self.index(known)})"]
+        text = self.ended(self.pick(calls), moved, depth)
+        return text + (f"\nlcontract({block});" if self.chance(0.1) else ""), moved
+
+    def array(self, known: Known, depth: int) -> tuple[str, Known]:
+        block = self.pick(known.blocks)
+        at, moved = self.chunk_of(known), known.without_pointers(known.blocks[block])
+        if self.chance(0.3) and len(known.words) < 4:
+            name = self.fresh("c")
+            return f"let {name} = canew({block}, {self.pick([0, 2, 8, 8])})?;", moved.with_word(name)
+        calls = [f"caadd({block}, {at}, {self.index(known)})", f"cains({block}, {at}, {self.index(known)}, {self.index(known)})"]
+        calls += [f"cadel({block}, {at}, {self.index(known)})", f"cazero({block}, {at})"]
+        calls += [f"caresize({block}, {at}, {self.index(known)}, {self.index(known)})"]
+        return self.ended(self.pick(calls), moved, depth), moved
+
+    def store(self, known: Known, depth: int) -> tuple[str, Known]:
+        return f"{self.access(known)} = {self.value(known, 2)};", known
+
+    def copy(self, known: Known, depth: int) -> tuple[str, Known]:
+        to, source = self.pick(known.pointers), self.pick(known.pointers)
+        most = min(known.pointers[to][1], known.pointers[source][1])
+        return f"copy({to}, {source}, {self.number(0, most)});", known
+
+    def file(self, known: Known, depth: int) -> tuple[str, Known]:
+        word = self.word(known)
+        if self.chance(0.1):
+            return f"out(vuid({word})?)?;", known
+        if known.blocks:
+            return self.pick([f"vsetmap({word})?;", "out(vgetmap())?;", "out(vfind(0, 5)?)?;", f"mfree({word})?;"]), known
+        if self.chance(0.3) and len(known.words) < 4:
+            name = self.fresh("g")
+            return f"let {name} = gnew()?;", known.with_word(name)
+        calls = ["vsave()", "vupdate()", "vrevert()", f"isetmap({word}, 16)", f"vfree({word})", f"gfree({word})"]
+        return self.ended(self.pick(calls), known, depth), self.after(known)
+
+    def item(self, known: Known, depth: int) -> tuple[str, Known]:
+        group, moved = self.pick(["1", "2", "3", self.word(known)]), known.without_pointers("group")
+        if self.chance(0.4) and len(known.words) < 4:
+            name = self.fresh("t")
+            return f"let {name} = inew({group}, {self.pick(['8', '3'])})?;", moved.with_word(name)
+        calls = [f"iins({group}, 16, {self.index(known)}, {self.index(known)})", f"ifree({group}, 16)"]
+        calls += [f"idel({group}, 16, {self.index(known)}, {self.index(known)})", f"irealloc({group}, 16, {self.index(known)})"]
+        return self.ended(self.pick(calls), moved, depth), moved
