@@ -25,7 +25,7 @@ ls -A
 
 # The text of a comment, as it is explained: to a file, and to a terminal.
 printf 'routine a public budget 1 ; %s\r\n RET ; \033[31m \302\233 \303\251 \001\n' "tab	" >text.asm
-"$program" explain text.asm | tail -n 1 | od -An -c
+"$program" explain text.asm | sed -n 2p | od -An -c
 cat >on_terminal.py <<'END'
 import os, pty, subprocess, sys
 ours, theirs = pty.openpty()

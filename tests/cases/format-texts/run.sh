@@ -12,9 +12,12 @@ echo "status $?"
 "$program" fmt odd.asm odd.asm 2>&1 | head -n 1
 "$program" fmt odd.asm --in-place && cmp odd.asm once.asm && echo "in place"
 
-# To the standard output, since a file that is made is synced. A text of one line that ends with a carriage return only gets an end of its
-# line, and then changes once more.
-for text in "$top"/examples/*.asm $(find "$top/tests/cases" -name '*.asm' ! -name '*carriage-returns-alone.asm'); do
+# Words that end with carriage returns, in lines with and without an end, stay as they are.
+printf 'routine f budget 1\r\r\n RET\r\r ; x\r\r\n\r\r\n; y\r' >returns.asm
+"$program" fmt returns.asm | od -c -An
+
+# To the standard output, since a file that is made is synced.
+for text in returns.asm "$top"/examples/*.asm $(find "$top/tests/cases" -name '*.asm'); do
     "$program" fmt "$text" >formatted.asm && "$program" fmt formatted.asm | cmp - formatted.asm || echo "$text changes again"
     "$program" asm "$text" - >before.image 2>before.said
     "$program" asm formatted.asm - >after.image 2>after.said

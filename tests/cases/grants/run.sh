@@ -1,4 +1,4 @@
-# Plug-ins of strangers, each accepted by the verifier: `list` prints what they do, and `call` and `run` refuse them before anything runs if
+# Plug-ins of strangers, each accepted by the verifier: `list` prints what they do, and `call`, `run` and `trace` refuse them before anything runs if
 # more is granted than they do.
 export LC_ALL=C
 here=$(readlink -f "$(dirname "$0")")
@@ -43,6 +43,14 @@ cmp file.vm first.vm && echo "the file is as before"
 echo "a script:"
 echo 'call tidy' >script
 "$program" run "$here/map.asm" file.vm script --grant output 2>&1
+echo "status $?"
+cmp file.vm first.vm && echo "the file is as before"
+echo "a trace:"
+"$program" trace "$here/map.asm" --file file.vm --grant output tidy 2>&1
+echo "status $?"
+"$program" trace "$here/map.asm" --file file.vm --most-steps 19 tidy 2>&1
+echo "status $?"
+"$program" trace "$here/plugins.asm" --file file.vm --grant reads-lent,changes-lent filter @1 >/dev/null
 echo "status $?"
 cmp file.vm first.vm && echo "the file is as before"
 echo "granted:"

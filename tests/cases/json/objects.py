@@ -24,6 +24,7 @@ MEMBERS = {
     "error": FINDING,
     "warning": FINDING,
     "more": {"file": TEXT, "count": NUMBER},
+    "effects": {"file": TEXT, "routine": TEXT, "effects": TEXT},
     "output": {"value": NUMBER},
     "refused": {"number": NUMBER},
     "steps": {"taken": NUMBER, "budget": NUMBER},

@@ -5,7 +5,11 @@ folder=$(mktemp -d)
 trap 'rm -rf "$folder"' EXIT
 python3 -B "$here/check.py" "$top" "$1" "$folder"
 # The strings of the program are those that tools/page.py makes.
-python3 -B "$top/tools/page.py" "$folder/template" && cmp "$folder/template" "$top/crates/trace_pages/src/template.rt" && echo "the page is new"
+mkdir "$folder/strings"
+python3 -B "$top/tools/page.py" "$folder/strings" && {
+    for file in "$folder/strings"/*; do cmp "$file" "$top/crates/geos_trace/src/${file##*/}" || exit; done
+    echo "the page is new"
+}
 # With --html, nothing else is chosen, and no page is written if nothing runs.
 cd "$folder" || exit 1
 "$1" trace "$top/examples/add.asm" add --html no.html --count 2>&1 | head -n 1
