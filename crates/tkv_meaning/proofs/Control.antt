@@ -1,0 +1,189 @@
+-- One step of a run that returns: of a plain instruction, a jump, a loop's test, a return.
+use Rattle.std.proofs.Common.{◌≡◌, ℕ, ◌+◌, ◌-◌, ◌<◌, Bool, true, false, cond, Some, List, [], ◌∷◌, ◌++◌, length, refl, sym, ap, ◌∙◌, subst, arith, inl, inr}
+use Rattle.std.specs.Prelude.{nat_lt}
+use Rattle.std.proofs.lemmas.Bool.{ltb-false}
+use Rattle.geos_image.specs.declared.instr.Instr.{Instr}
+use Rattle.geos_image.specs.Parts.{Parts}
+use Rattle.geos_opcodes.specs.declared.opcode.Opcode.TheVariants as op
+use Rattle.geos_opcodes.specs.Facts.{uses_of}
+use Rattle.geos_calls.specs.Effects.{Choice}
+use Rattle.geos_semantics.specs.State.{State, Frame, counter, with_counter, goto, along}
+use Rattle.geos_semantics.specs.Faults.{is_fault}
+use Rattle.geos_semantics.specs.Model.{Outcome, Fault, Next, Done, Ending, Faulted, Returned, run, step, step_at, tried, begun, in_routine, return_to}
+use Rattle.tkv_meaning.specs.Code.{jump, turn, ret, At}
+use Rattle.tkv_meaning.specs.Meaning.{Scope, scope, drifted, Drifts}
+use Rattle.tkv_meaning.proofs.Keeps.{Uniform}
+
+-- what a step makes of a run
+abbrev pub ended : Parts → ℕ → List Choice → ℕ → Outcome → Ending
+ended image depth cs n Fault = Faulted
+ended image depth cs n (Next t) = cond (nat_lt (length t.stack) depth) (Returned (n + 1) t) (run image depth cs (n + 1) t)
+ended image depth cs n (Done t) = Returned (n + 1) t
+
+run_is : (image : Parts) (depth : ℕ) (c : Choice) (cs : List Choice) (n : ℕ) (s : State)
+    → run image depth (c ∷ cs) n s ≡ ended image depth cs n (step image c s)
+run_is image depth c cs n s = go (step image c s)
+  where
+    go : (o : Outcome) → elim o [
+      | Fault ↦ Faulted
+      | Next t ↦ cond (nat_lt (length t.stack) depth) (Returned (n + 1) t) (run image depth cs (n + 1) t)
+      | Done t ↦ Returned (n + 1) t
+    ] ≡ ended image depth cs n o
+    go Fault = refl
+    go (Next t) = refl
+    go (Done t) = refl
+
+-- a run that returns takes the step of the instruction at its pc
+pub record Tried (image : Parts) (depth : ℕ) (ending : Ending) (i : Instr) (choices : List Choice) (n : ℕ) (s : State) : Type 0 where
+  pub choice : Choice
+  pub rest : List Choice
+  pub parts : choices ≡ choice ∷ rest
+  pub is : ended image depth rest n (tried image choice i (begun choice s)) ≡ ending
+
+pub one_try : (image : Parts) (depth m : ℕ) (last : State) (choices : List Choice) (n : ℕ) (s : State) (i : Instr) → At image s.pc i
+    → run image depth choices n s ≡ Returned m last → Tried image depth (Returned m last) i choices n s
+one_try image depth m last [] n s i at h = absurd cc
+one_try image depth m last (c ∷ cs) n s i at h = go (in_routine image s.routine s.pc) all
+  where
+    here : step image c s ≡ step_at image c (begun c s) (Some at.0)
+    here = ap (step_at image c (begun c s)) at.1
+
+    there : step_at image c (begun c s) (Some at.0) ≡ cond (in_routine image s.routine s.pc) (tried image c i (begun c s)) Fault
+    there = ap (λ (j : Instr). cond (in_routine image s.routine s.pc) (tried image c j (begun c s)) Fault) at.2
+
+    all : ended image depth cs n (cond (in_routine image s.routine s.pc) (tried image c i (begun c s)) Fault) ≡ Returned m last
+    all = sym (ap (ended image depth cs n) (here ∙ there)) ∙ (sym (run_is image depth c cs n s) ∙ h)
+
+    go : (b : Bool) → ended image depth cs n (cond b (tried image c i (begun c s)) Fault) ≡ Returned m last
+        → Tried image depth (Returned m last) i (c ∷ cs) n s
+    go true q = record { choice = c; rest = cs; parts = refl; is = q }
+    go false q = absurd cc
+
+-- the stack stays
+abbrev pub Stays : State → Outcome → Type 0
+Stays s Fault = Unit {0}
+Stays s (Next t) = t.stack ≡ s.stack
+Stays s (Done t) = ⊥
+
+pub uniform-stays : (s : State) (f : ℕ → Outcome) → Uniform s f → (to : ℕ) → Stays s (f to)
+uniform-stays s f (inl u) to = subst (Stays s) (sym (u to)) tt
+uniform-stays s f (inr (inl u)) to = subst (Stays s) (sym (u.2 to)) u.1
+uniform-stays s f (inr (inr u)) to = subst (Stays s) (sym (u.2 to)) u.1
+
+-- a run that returns takes a step that leaves the stack, and goes on
+pub record Stepped (image : Parts) (depth : ℕ) (ending : Ending) (i : Instr) (s : State) (bound : ℕ) : Type 0 where
+  pub choice : Choice
+  pub after : State
+  pub rest : List Choice
+  pub steps : ℕ
+  pub goes_on : run image depth rest steps after ≡ ending
+  pub done : tried image choice i (begun choice s) ≡ Next after
+  pub stack : after.stack ≡ s.stack
+  pub fewer : length rest < bound
+
+pub one_step : (image : Parts) (depth m : ℕ) (last : State) (choices : List Choice) (n : ℕ) (s : State) (i : Instr) → At image s.pc i
+    → ((c : Choice) → Stays s (tried image c i (begun c s))) → nat_lt (length s.stack) depth ≡ false
+    → run image depth choices n s ≡ Returned m last → Stepped image depth (Returned m last) i s (length choices)
+one_step image depth m last choices n s i at stays deep h = went (tried image t.choice i (begun t.choice s)) refl (stays t.choice) t.is
+  where
+    t : Tried image depth (Returned m last) i choices n s
+    t = one_try image depth m last choices n s i at h
+
+    went : (o : Outcome) → tried image t.choice i (begun t.choice s) ≡ o → Stays s o → ended image depth t.rest n o ≡ Returned m last
+        → Stepped image depth (Returned m last) i s (length choices)
+    went Fault e k q = absurd cc
+    went (Next u) e k q =
+        let d : nat_lt (length u.stack) depth ≡ false = subst (λ (st : List Frame). nat_lt (length st) depth ≡ false) (sym k) deep in
+        record {
+          choice = t.choice;
+          after = u;
+          rest = t.rest;
+          steps = n + 1;
+          goes_on = subst (λ (b : Bool). cond b (Returned (n + 1) u) (run image depth t.rest (n + 1) u) ≡ Returned m last) d q;
+          done = e;
+          stack = k;
+          fewer = (let p = ap (λ (cs : List Choice). length cs) t.parts in omega (arith, p));
+        }
+    went (Done u) e k q = absurd k
+
+next_is : (b : Bool) (t u : State) → cond b Fault (Next t) ≡ Next u → u ≡ t
+next_is true t u e = absurd cc
+next_is false t u e = cc
+
+stays_next : (b : Bool) (s t : State) → t.stack ≡ s.stack → Stays s (cond b Fault (Next t))
+stays_next true s t e = tt
+stays_next false s t e = e
+
+-- Jumps
+
+pub jump_stays : (image : Parts) (c : Choice) (to : ℕ) (s : State) → Stays s (tried image c (jump to) (begun c s))
+jump_stays image c to s = stays_next (is_fault (jump to) (uses_of op.Jmp) (begun c s)) s (goto to (begun c s)) refl
+
+pub jump_done : (image : Parts) (c : Choice) (to : ℕ) (s t : State) → tried image c (jump to) (begun c s) ≡ Next t → t ≡ goto to (begun c s)
+jump_done image c to s t e = next_is (is_fault (jump to) (uses_of op.Jmp) (begun c s)) (goto to (begun c s)) t e
+
+-- The test of a loop
+
+-- what the test makes of a counter's value
+abbrev pub turned : ℕ → ℕ → State → ℕ → Outcome
+turned k to s v = cond (nat_lt 0 v) (Next (goto to (with_counter k (v - 1) s))) (Next (along s))
+
+pub turn_stays : (image : Parts) (c : Choice) (k to : ℕ) (s : State) → Stays s (tried image c (turn k to) (begun c s))
+turn_stays image c k to s = go (is_fault (turn k to) (uses_of op.Loop) (begun c s)) (nat_lt 0 (counter s k))
+  where
+    go : (b d : Bool) → Stays s (cond b Fault (cond d (Next (goto to (with_counter k (counter s k - 1) (begun c s)))) (Next (along (begun c s)))))
+    go true d = tt
+    go false true = refl
+    go false false = refl
+
+pub turn_done : (image : Parts) (c : Choice) (k to : ℕ) (s t : State) → tried image c (turn k to) (begun c s) ≡ Next t
+    → turned k to (begun c s) (counter s k) ≡ Next t
+turn_done image c k to s t h = go (is_fault (turn k to) (uses_of op.Loop) (begun c s)) h
+  where
+    go : (b : Bool) → cond b Fault (turned k to (begun c s) (counter s k)) ≡ Next t → turned k to (begun c s) (counter s k) ≡ Next t
+    go true q = absurd cc
+    go false q = q
+
+pub next_state : (t u : State) → Next t ≡ Next u → u ≡ t
+next_state t u e = cc
+
+-- A return
+
+pub return_done : (image : Parts) (depth m n : ℕ) (last : State) (c : Choice) (cs : List Choice) (s : State) → depth ≡ length s.stack
+    → ended image depth cs n (tried image c ret (begun c s)) ≡ Returned m last → scope last ≡ scope (begun c s)
+return_done image depth m n last c cs s deep h = go (is_fault ret (uses_of op.Ret) (begun c s)) s.stack deep h
+  where
+    back : (b : Bool) (t : State) → b ≡ true → cond b (Returned (n + 1) t) (run image depth cs (n + 1) t) ≡ Returned m last → last ≡ t
+    back true t e q = cc
+    back false t e q = absurd cc
+
+    go : (b : Bool) (st : List Frame) → depth ≡ length st → ended image depth cs n (cond b Fault (return_to (begun c s) st)) ≡ Returned m last
+        → scope last ≡ scope (begun c s)
+    go true st d q = absurd cc
+    go false [] d q = ap scope (done q)
+      where
+        done : Returned (n + 1) (begun c s) ≡ Returned m last → last ≡ begun c s
+        done p = cc
+    go false (frame ∷ st) d q = ap scope (back (nat_lt (length st) depth)
+        (record (begun c s) { routine = frame.routine; pc = frame.pc; stack = st }) (is_less (nat_lt (length st) depth) refl) q)
+      where
+        is_less : (b : Bool) → nat_lt (length st) depth ≡ b → b ≡ true
+        is_less true e = refl
+        is_less false e = absurd (omega (arith, ltb-false (length st) depth e, d))
+
+-- Drifts
+
+-- what a scope is after a step of control
+pub drift : (c : Choice) (s t u : State) → u ≡ t → scope t ≡ drifted (c ∷ []) (scope s) → Drifts (scope s) (scope u)
+drift c s t u e h = (c ∷ [], ap scope e ∙ h)
+
+drifted-append : (cs ds : List Choice) (x : Scope) → drifted (cs ++ ds) x ≡ drifted ds (drifted cs x)
+drifted-append [] ds x = refl
+drifted-append (c ∷ cs) ds x = drifted-append cs ds (drifted (c ∷ []) x)
+
+-- one drift after another
+pub both : (x y z : Scope) → Drifts x y → Drifts y z → Drifts x z
+both x y z d e = (d.0 ++ e.0, e.1 ∙ (ap (drifted e.0) d.1 ∙ sym (drifted-append d.0 e.0 x)))
+
+pub none : (x : Scope) → Drifts x x
+none x = ([], refl)

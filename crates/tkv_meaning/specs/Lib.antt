@@ -1,0 +1,4 @@
+pub mod Statements
+pub mod Code
+pub mod Meaning
+pub mod Written
