@@ -3,7 +3,7 @@
 use crate::fault::Why;
 use crate::item::{Item, ItemKind};
 use crate::parser::{Parser, Part, Pending};
-use crate::token::Token;
+use crate::token::{Token, next_token};
 use crate::words::Word;
 
 /// The operation of a sign, and how strongly it binds.
@@ -32,6 +32,22 @@ fn comparison(word: Word) -> Option<u32> {
         Word::AtMost => Some(5),
         _ => None,
     }
+}
+
+/// Whether the word is one between values or tests of a condition.
+fn is_truth(word: Word) -> bool {
+    comparison(word).is_some() || matches!(word, Word::Both | Word::Either)
+}
+
+/// The most brackets around conditions that are open at once.
+const MOST_BRACKETS: usize = 16;
+
+/// Whether the word comes after a condition, or after one in brackets.
+fn ends_condition(word: Word) -> bool {
+    matches!(
+        word,
+        Word::Both | Word::Either | Word::ParenEnd | Word::Brace | Word::Max
+    )
 }
 
 /// What comes next within a value.
@@ -144,7 +160,16 @@ impl Parser {
                 self.begin_part(Part::Group, Item::new(ItemKind::End, at));
                 return Next::Operand;
             }
-            _ => self.refuse(Why::ExpectedValue, at),
+            Word::Plus | Word::Minus | Word::Set => self.refuse(Why::NoSign, at),
+            Word::Not => self.refuse(Why::NoTruth, at),
+            _ => {
+                let why = if self.is_reserved() {
+                    Why::Reserved
+                } else {
+                    Why::ExpectedValue
+                };
+                self.refuse(why, at);
+            }
         }
         Next::Operator
     }
@@ -233,12 +258,39 @@ impl Parser {
             Word::Asks => self.question(),
             Word::Comma => self.next_argument(base),
             Word::ParenEnd | Word::BracketEnd => self.close_part(base),
+            Word::Bracket => {
+                self.refuse(Why::FieldIndex, self.token.at);
+                Next::Nothing
+            }
+            Word::Arrow => {
+                self.refuse_word(Word::Dot);
+                Next::Nothing
+            }
             _ => self.operator(base),
         }
     }
 
-    /// A value. Its items are added, each after its operands.
+    /// A part of a value is not closed.
+    fn refuse_open(&mut self, part: Part) {
+        if is_truth(self.token.word) {
+            self.refuse(Why::NoTruth, self.token.at);
+        } else if matches!(part, Part::Index) {
+            self.refuse_word(Word::BracketEnd);
+        } else {
+            self.refuse_word(Word::ParenEnd);
+        }
+    }
+
+    /// A value, which no comparison follows.
     pub(crate) fn value(&mut self) {
+        self.side();
+        if is_truth(self.token.word) {
+            self.refuse(Why::NoTruth, self.token.at);
+        }
+    }
+
+    /// A value. Its items are added, each after its operands.
+    fn side(&mut self) {
         let base = self.pending.len();
         let mut next = Next::Operand;
         // Each turn takes a word, or is the last one.
@@ -250,10 +302,8 @@ impl Parser {
             };
         }
         self.settle(base, 1);
-        match self.part(base) {
-            Some(Part::Index) => self.refuse_word(Word::BracketEnd),
-            Some(_) => self.refuse_word(Word::ParenEnd),
-            None => {}
+        if let Some(part) = self.part(base) {
+            self.refuse_open(part);
         }
     }
 
@@ -277,52 +327,126 @@ impl Parser {
 
     /// A comparison of two values, or of two blocks.
     fn comparison(&mut self, negated: bool) {
-        self.value();
+        self.side();
         let Token { word, at, .. } = self.token;
         match comparison(word) {
             Some(test) => {
                 self.advance();
-                self.value();
+                self.side();
                 self.add_test(at, test, negated);
             }
-            None => self.block_test(negated),
+            None => {
+                if word == Word::Set {
+                    return self.refuse_word(Word::Same);
+                }
+                self.block_test(negated)
+            }
         }
     }
 
-    /// A comparison, or `!` and a test, which may be in brackets.
-    fn test(&mut self) {
-        let mut negated = false;
-        let mut brackets: u32 = 0;
-        for _ in 0..self.text.len() {
-            if !self.takes(Word::Not) {
+    /// Refuses what other languages write between tests.
+    fn refuse_joined(&mut self) {
+        let at = self.token.at;
+        if comparison(self.token.word).is_some() {
+            self.refuse(Why::NoTruth, at);
+        } else if self.is_named(at, "and") {
+            self.refuse_word(Word::Both);
+        } else if self.is_named(at, "or") {
+            self.refuse_word(Word::Either);
+        }
+    }
+
+    /// Whether the bracket that is next is around a condition and not around a value: the word after its partner decides. A bracket
+    /// without a partner is around a condition too.
+    fn brackets_condition(&self) -> bool {
+        let mut depth: u32 = 0;
+        let mut place = self.token.at;
+        for _ in 0..=self.text.len() {
+            let Ok(token) = next_token(&self.text, place) else {
+                return true;
+            };
+            if depth == 0 && place > self.token.at {
+                return ends_condition(token.word);
+            }
+            match token.word {
+                Word::Paren => depth = depth.saturating_add(1),
+                Word::ParenEnd => depth = depth.saturating_sub(1),
+                Word::Stop | Word::Brace | Word::BraceEnd | Word::End => return true,
+                _ => {}
+            }
+            place = token.end;
+        }
+        true
+    }
+
+    /// A bracket around a condition opens, within a condition that began when so much was not closed.
+    fn open_bracket(&mut self, base: usize, negated: bool) {
+        let at = self.expect(Word::Paren);
+        if self.pending.len().saturating_sub(base) >= MOST_BRACKETS {
+            return self.refuse(Why::TooMany, at);
+        }
+        let a = u32::from(negated);
+        self.add(ItemKind::Group, at, a, 0);
+        self.begin_part(
+            Part::Tests,
+            Item {
+                a,
+                ..Item::new(ItemKind::GroupEnd, at)
+            },
+        );
+        self.put_plain(ItemKind::Alt, at);
+    }
+
+    /// Brackets around conditions close that are next.
+    fn close_brackets(&mut self, base: usize) {
+        for _ in 0..self.pending.len() {
+            let at = self.token.at;
+            if !self.is_open(base) || !self.takes(Word::ParenEnd) {
                 break;
             }
-            negated = !negated;
-            if self.takes(Word::Paren) {
-                brackets = brackets.saturating_add(1);
+            self.put_plain(ItemKind::AltEnd, at);
+            self.close_innermost();
+        }
+    }
+
+    /// A comparison with what is before it, `!` and brackets, and the brackets that close after it.
+    fn test(&mut self, base: usize) {
+        let mut negated = false;
+        for _ in 0..=self.text.len() {
+            let not = self.takes(Word::Not);
+            negated = negated != not;
+            if self.is(Word::Paren) && (not || self.brackets_condition()) {
+                self.open_bracket(base, negated);
+                negated = false;
+            } else if !not {
+                break;
             }
         }
         self.comparison(negated);
-        for _ in 0..brackets {
-            self.expect(Word::ParenEnd);
-        }
+        self.close_brackets(base);
+        self.refuse_joined();
     }
 
     /// A condition: alternatives, each of tests that are all to hold.
     pub(crate) fn condition(&mut self) {
+        let base = self.pending.len();
         let at = self.token.at;
         self.put_plain(ItemKind::Alt, at);
         for _ in 0..=self.text.len() {
-            self.test();
+            self.test(base);
             if self.takes(Word::Both) {
                 continue;
             }
-            self.put_plain(ItemKind::AltEnd, at);
             if !self.takes(Word::Either) {
                 break;
             }
+            self.put_plain(ItemKind::AltEnd, at);
             self.put_plain(ItemKind::Alt, at);
         }
+        if self.is_open(base) {
+            self.refuse_word(Word::ParenEnd);
+        }
+        self.put_plain(ItemKind::AltEnd, at);
         self.put_plain(ItemKind::CondEnd, at);
     }
 }

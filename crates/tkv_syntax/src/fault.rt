@@ -20,8 +20,32 @@ pub enum Why {
     Expected,
     /// A value is expected here: a number, a name or a bracket.
     ExpectedValue,
+    /// A sign, or the `=` of `+=`, is where a value is expected.
+    NoSign,
+    /// A comparison is where a value is expected.
+    NoTruth,
     /// A condition is expected here.
     ExpectedCondition,
+    /// A word of the language is where a name, a value or a statement is expected.
+    Reserved,
+    /// A declaration is expected here.
+    ExpectedFn,
+    /// A declaration is in a routine.
+    Inner,
+    /// A parameter is expected here.
+    ExpectedParam,
+    /// A field is expected here.
+    ExpectedField,
+    /// A semicolon ends no statement.
+    Empty,
+    /// No statement begins with this name.
+    NoStatement,
+    /// A `{` follows a statement that has no statements of its own.
+    NoBody,
+    /// The parts of a `for` are expected here.
+    ExpectedFor,
+    /// The bound of a loop is expected here.
+    ExpectedMax,
     /// `?` follows something that is never refused.
     NotRefusable,
     /// This can't be set.
@@ -32,8 +56,15 @@ pub enum Why {
     ExpectedLock,
     /// A name is used twice; `other` is its first place.
     Twice,
+    /// The name is that of an instruction.
+    Instruction,
     /// Nothing has this name here.
     Unknown,
+    /// Neither a routine nor an instruction has this name. `number` is 0, or the code of an instruction that has nearly this name, or
+    /// 65,535 for a routine that is declared at `other`.
+    NoCall,
+    /// A lock is called without names for what it locks.
+    LockOnly,
     /// The name stands for something that is no word.
     NoWordHere,
     /// A constant is expected here.
@@ -50,6 +81,8 @@ pub enum Why {
     FieldIndex,
     /// A constant is past what a word holds, or is divided by 0.
     ConstantRange,
+    /// The number of a `fail` is 0.
+    FailZero,
     /// No instruction multiplies or divides by this: one side must be a constant, and a divisor a power of two.
     NoInstruction,
     /// This may be refused, and nothing says what happens then.
@@ -84,6 +117,8 @@ pub enum Why {
     Dropped,
     /// The call gives a different number of values.
     Values,
+    /// A routine with a result does not return one here, or one without a result does.
+    Returns,
     /// A routine calls itself.
     CallsItself,
     /// A public routine is called only from outside, takes words and lent blocks, and gives no result.
@@ -106,6 +141,8 @@ pub enum Why {
     Refused,
     /// No bound on the steps of the routine is found.
     NoSteps,
+    /// The code that was made is not that of the routine: a fault of the compiler.
+    OtherCode,
 }
 
 /// Why a source is refused, and where: offsets in the source.

@@ -39,7 +39,7 @@ pub enum ItemKind {
     Store,
     /// Nothing is done with what the call gives.
     Done,
-    /// Outputs a word.
+    /// Outputs a word, by the `out` at offset `a`.
     Put,
     /// Marks the block.
     Dirty,
@@ -52,6 +52,9 @@ pub enum ItemKind {
     // Conditions: alternatives, each of tests that are all to hold.
     If,
     Alt,
+    /// Brackets around alternatives: `a` is 1 if `!` is before them.
+    Group,
+    GroupEnd,
     /// Compares two values: `a` is 0 to 7 for `==`, `!=`, `<`, `>=`, `>`, `<=`, `differ` and `same`.
     Test,
     AltEnd,

@@ -3,7 +3,7 @@
 use crate::fault::{Fault, Why};
 use crate::item::{Item, ItemKind, NONE, NUMBERS};
 use crate::token::{Token, next_token};
-use crate::words::{Word, is_named};
+use crate::words::{Word, byte_at, is_named};
 use std::alloc::Global;
 
 /// The most bytes of a source.
@@ -28,6 +28,8 @@ pub(crate) enum Part {
     Handler,
     /// Statements that nothing follows but an item.
     Last,
+    /// Within a condition: brackets around conditions.
+    Tests,
     /// Within a value: a bracket, the arguments of a call, an index, an operation.
     Group,
     Call,
@@ -74,8 +76,17 @@ impl Parser {
         self.refuse_with(Fault::new(why, at));
     }
 
+    /// Whether the next word is one of the language in letters.
+    pub(crate) fn is_reserved(&self) -> bool {
+        let lettered = byte_at(&self.text, self.token.at as usize).is_ascii_alphabetic();
+        lettered && !matches!(self.token.word, Word::Named | Word::End)
+    }
+
     /// Refuses another word than this one.
     pub(crate) fn refuse_word(&mut self, word: Word) {
+        if word == Word::Named && self.is_reserved() {
+            return self.refuse(Why::Reserved, self.token.at);
+        }
         self.refuse_with(Fault {
             word,
             ..Fault::new(Why::Expected, self.token.at)
@@ -111,6 +122,15 @@ impl Parser {
         let at = self.token.at;
         if !self.takes(word) {
             self.refuse_word(word);
+        }
+        at
+    }
+
+    /// Takes the word, or refuses another one for a reason. Returns where it was.
+    pub(crate) fn require(&mut self, word: Word, why: Why) -> u32 {
+        let at = self.token.at;
+        if !self.takes(word) {
+            self.refuse(why, at);
         }
         at
     }
@@ -197,7 +217,8 @@ impl Parser {
         if self.takes(Word::Number) {
             return number;
         }
-        self.expect(Word::Named).saturating_add(NUMBERS)
+        self.require(Word::Named, Why::NoConstant)
+            .saturating_add(NUMBERS)
     }
 
     /// Whether the name at a place is this one.
@@ -223,7 +244,7 @@ impl Parser {
         } else if self.is_named(kind, "group") {
             2
         } else {
-            return self.refuse_word(Word::In);
+            return self.refuse(Why::ExpectedParam, kind);
         };
         self.add(ItemKind::BlockParam, at, number, 0);
     }
@@ -259,7 +280,7 @@ impl Parser {
                 return count;
             }
             if count > 0 {
-                self.expect(Word::Comma);
+                self.require(Word::Comma, Why::ExpectedParam);
             }
             self.parameter();
         }
@@ -281,7 +302,7 @@ impl Parser {
     fn header(&mut self) {
         let public = self.takes(Word::Pub);
         self.takes(Word::Inline);
-        self.expect(Word::Fn);
+        self.require(Word::Fn, Why::ExpectedFn);
         let start = self.items.len();
         let at = self.expect(Word::Named);
         self.put_plain(ItemKind::Fn, at);
@@ -302,7 +323,7 @@ impl Parser {
             return 2;
         }
         if !self.is_named(size, "byte") {
-            self.refuse(Why::NoWordHere, size);
+            self.refuse(Why::ExpectedField, size);
         }
         1
     }
@@ -310,7 +331,7 @@ impl Parser {
     /// A field of a structure, up to the comma or semicolon after it.
     fn field_line(&mut self) {
         let at = self.expect(Word::Named);
-        self.expect(Word::Colon);
+        self.require(Word::Colon, Why::ExpectedField);
         let size = self.expect(Word::Named);
         let bytes = self.field_bytes(size);
         let many = self.takes(Word::Bracket);

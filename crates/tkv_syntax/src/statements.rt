@@ -40,7 +40,20 @@ impl Parser {
             self.put_plain(ItemKind::HandlerEnd, at);
         }
         self.put_plain(ItemKind::End, at);
+        if self.is(Word::Brace) {
+            return self.refuse(Why::NoBody, self.token.at);
+        }
         self.expect(Word::Stop);
+    }
+
+    /// Refuses a statement that is a name with another name, a number or `{` after it.
+    fn refuse_named(&mut self) {
+        if let Some(item) = self.items.last().copied()
+            && matches!(item.kind, ItemKind::Named)
+            && matches!(self.token.word, Word::Named | Word::Number | Word::Brace)
+        {
+            self.refuse(Why::NoStatement, item.at);
+        }
     }
 
     /// A statement that begins with a value: a lock, a call, or what sets something.
@@ -53,6 +66,7 @@ impl Parser {
                 self.finish(start);
             }
             _ => {
+                self.refuse_named();
                 self.put_plain(ItemKind::Done, self.token.at);
                 self.finish(start);
             }
@@ -113,6 +127,9 @@ impl Parser {
                 break;
             }
         }
+        if self.is(Word::Colon) {
+            self.refuse_word(Word::Set);
+        }
         let valued = self.takes(Word::Set);
         if valued {
             self.value();
@@ -129,12 +146,12 @@ impl Parser {
 
     /// Outputs words.
     fn output(&mut self, start: usize) {
-        self.expect(Word::Out);
+        let out = self.expect(Word::Out);
         self.expect(Word::Paren);
         for _ in 0..=self.text.len() {
             let at = self.token.at;
             self.value();
-            self.put_plain(ItemKind::Put, at);
+            self.add(ItemKind::Put, at, out, 0);
             if !self.takes(Word::Comma) {
                 break;
             }
@@ -197,7 +214,7 @@ impl Parser {
         if tests {
             self.condition();
         }
-        self.expect(Word::Max);
+        self.require(Word::Max, Why::ExpectedMax);
         let most = self.constant();
         self.amend(start, most, u32::from(tests));
         self.enter(Part::Turns);
@@ -205,10 +222,13 @@ impl Parser {
 
     fn counted(&mut self) {
         self.expect(Word::For);
-        let at = self.expect(Word::Named);
-        self.expect(Word::In);
+        let at = self.require(Word::Named, Why::ExpectedFor);
+        self.require(Word::In, Why::ExpectedFor);
         self.value();
-        self.expect(Word::To);
+        self.require(Word::To, Why::ExpectedFor);
+        if self.is(Word::Set) {
+            self.refuse(Why::ExpectedFor, self.token.at);
+        }
         self.value();
         let step = if self.takes(Word::Step) {
             self.constant()
@@ -252,6 +272,10 @@ impl Parser {
                 self.leave();
                 self.expect(Word::Stop);
             }
+            Word::Pub | Word::Inline | Word::Fn | Word::Const | Word::Struct => {
+                self.refuse(Why::Inner, self.token.at)
+            }
+            Word::Stop => self.refuse(Why::Empty, self.token.at),
             Word::End => self.refuse_word(Word::BraceEnd),
             _ => self.simple(),
         }

@@ -163,6 +163,9 @@ pub(crate) fn next_token(text: &[u8], from: u32) -> Result<Token, Fault> {
     if at as usize >= text.len() {
         return Ok(Token::new(Word::End, at, at));
     }
+    if byte == b'/' && letter(text, plus(at, 1)) == b'*' {
+        return Err(Fault::new(Why::NoWord, at));
+    }
     if byte.is_ascii_digit() {
         let end = letters_end(text, at);
         return valued(at, end, number(text, at, end));
