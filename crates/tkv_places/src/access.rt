@@ -17,6 +17,30 @@ struct Target {
     scale: u16,
 }
 
+impl Target {
+    /// The offset with an index.
+    fn offset_at(&self, index: u16) -> u32 {
+        u32::from(index)
+            .saturating_mul(u32::from(self.scale))
+            .saturating_add(u32::from(self.offset))
+    }
+
+    /// Whether with an index it is within so many bytes.
+    fn is_within(&self, index: u16, bytes: u16) -> bool {
+        let end = self.offset_at(index).saturating_add(u32::from(self.bytes));
+        end <= u32::from(bytes)
+    }
+
+    /// Whether it is within so many bytes for each number that the index can be.
+    fn is_always_within(&self, index: &Operand, bytes: u16) -> bool {
+        let bounded = matches!(index.sort, Sort::Word) && index.value > 0;
+        bounded && self.is_within(index.value.saturating_sub(1), bytes)
+    }
+}
+
+/// The block around the statements of a public routine.
+const OUTERMOST: u16 = 0;
+
 /// Whether it is written, and of how many bytes it is: the opcodes for a fixed offset, an index that the verifier bounds, and a tested one.
 fn opcodes(store: bool, bytes: u16) -> (Opcode, Opcode, Opcode) {
     match (store, bytes == 2) {
@@ -148,11 +172,8 @@ impl Placer {
         let from = self.pointer_of(pointer);
         let may_be_refused = item.b != 0 || self.handler != NOWHERE;
         if index.is_constant() {
-            let offset = u32::from(index.value)
-                .saturating_mul(u32::from(target.scale))
-                .saturating_add(u32::from(target.offset));
-            let end = offset.saturating_add(u32::from(target.bytes));
-            if end <= u32::from(pointer.value) && offset <= 65_535 {
+            let offset = target.offset_at(index.value);
+            if target.is_within(index.value, pointer.value) && offset <= 65_535 {
                 return self.act(with_number(fixed, register, from, offset as u16), at);
             }
             if !may_be_refused || item.a == 0 {
@@ -163,6 +184,9 @@ impl Placer {
         if may_be_refused {
             let way = self.refusal_way(item.b != 0, at);
             self.act_to(with_registers(tested, register, from, word), way, at);
+        } else if target.is_always_within(&index, pointer.value) {
+            // The test costs no step and never fails.
+            self.act_to(with_registers(tested, register, from, word), OUTERMOST, at);
         } else {
             self.act(with_registers(bounded, register, from, word), at);
         }

@@ -153,7 +153,7 @@ impl Placer {
         let count = item.a as usize;
         let sizeless = matches!(opcode, Opcode::Caadd | Opcode::Cains) && count + 1 == takes;
         if !is_call(opcode) {
-            return self.refuse(Why::Unknown, at);
+            return self.refuse(Why::LockOnly, at);
         }
         if count != takes && !sizeless {
             return self.refuse_by(Why::Arguments, at, takes.min(255) as u16);

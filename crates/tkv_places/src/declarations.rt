@@ -242,7 +242,7 @@ impl Declaring {
                 ..Fault::new(Why::Twice, at)
             });
         } else if opcode_named(name).is_some() {
-            self.refuse(Why::Twice, at);
+            self.refuse(Why::Instruction, at);
         }
     }
 

@@ -24,7 +24,7 @@ impl Placer {
         match found {
             Some(routine) => {
                 if !matches!(routine.kind, Kind::Routine) {
-                    self.refuse(Why::Unknown, at);
+                    self.refuse(Why::NoCall, at);
                 }
                 if self
                     .running
@@ -34,7 +34,10 @@ impl Placer {
                     self.refuse(Why::CallsItself, at);
                 }
             }
-            None => self.refuse(Why::Unknown, at),
+            None => {
+                let fault = self.declared.no_call(name, at);
+                self.refuse_with(fault);
+            }
         }
         found
     }
@@ -220,7 +223,7 @@ impl Placer {
             return self.refuse(Why::Unreached, at);
         };
         if call.gives && self.state.alive {
-            return self.refuse(Why::Values, at);
+            return self.refuse(Why::Returns, at);
         }
         self.end(at);
         if !self.state.alive {

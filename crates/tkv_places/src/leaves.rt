@@ -89,7 +89,7 @@ impl Placer {
             let operand = self.operand(0, at);
             let number = self.number_of(operand);
             if number == 0 {
-                return self.refuse(Why::ConstantRange, at);
+                return self.refuse(Why::FailZero, at);
             }
             self.act(with_number(Opcode::Ldi, WHY, 0, number), at);
             self.state = self.state.with_word(WHY);
@@ -106,7 +106,7 @@ impl Placer {
             return;
         };
         if running.gives != (item.a != 0) {
-            return self.refuse(Why::Values, at);
+            return self.refuse(Why::Returns, at);
         }
         if running.gives {
             let operand = self.operand(0, at);

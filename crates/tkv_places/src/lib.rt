@@ -13,6 +13,7 @@ mod locks;
 mod loops;
 mod moves;
 mod names;
+mod near;
 mod operands;
 mod operations;
 mod placed;

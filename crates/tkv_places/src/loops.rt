@@ -1,8 +1,8 @@
 //! Loops. A loop is within a block, to whose end `break` leaves, and contains a block, to whose end `continue` leaves.
 
 use crate::names::value;
-use crate::placed::{PlacedKind, with_number, with_registers};
-use crate::placer::{Construct, Frame, MOST_WORDS, Meaning, Operand, Placer, Sort, Turns};
+use crate::placed::{NOWHERE, PlacedKind, with_number, with_registers};
+use crate::placer::{Construct, Frame, MOST_WORDS, Meaning, Operand, Placer, Sort, Symbol, Turns};
 use crate::state::{WHY, below, bit};
 use geos_opcodes::Opcode;
 use tkv_syntax::{Item, Why};
@@ -23,6 +23,19 @@ impl Counting {
     /// Whether the number of turns is known.
     fn is_known(&self) -> bool {
         self.low.is_constant() && self.high.is_constant()
+    }
+
+    /// The number after the last one that is counted; 0 if it is not known.
+    fn limit(&self) -> u16 {
+        let span = self.high.value.saturating_sub(self.low.value);
+        if !self.is_known() || span == 0 || self.step == 0 {
+            return 0;
+        }
+        let more = (span - 1) / self.step;
+        self.low
+            .value
+            .saturating_add(more.saturating_mul(self.step))
+            .saturating_add(1)
     }
 }
 
@@ -168,6 +181,19 @@ impl Placer {
         }
     }
 
+    /// Names the word that counts, which is always below the limit unless that is 0.
+    fn declare_counted(&mut self, at: u32, register: u8, limit: u16) {
+        self.declare(Symbol {
+            name: self.name(at),
+            at,
+            meaning: Meaning::Fixed,
+            register,
+            value: limit,
+            structure: NOWHERE,
+            last: usize::MAX,
+        });
+    }
+
     /// `for`: the two values before it are where counting begins, and where it ends.
     pub(crate) fn count(&mut self, item: &Item) {
         let at = item.at;
@@ -189,7 +215,7 @@ impl Placer {
         let counted = self.count_from(&counting, none, speaks, at);
         self.clear();
         if counted != UNCOUNTED {
-            self.declare_as(Meaning::Fixed, at, counted);
+            self.declare_counted(at, counted, counting.limit());
             self.keep_word(counted);
         }
         self.begin_turns(frame, counted, step, !counting.is_known());
@@ -226,9 +252,11 @@ impl Placer {
         self.end(at);
         self.end(at);
         self.counters = self.counters.saturating_sub(1);
+        // `break` and `continue` in the `else` belong to the loop around this one.
+        self.turn_into(Construct::Scope);
     }
 
-    /// The end of the loop, and what follows if all iterations were used.
+    /// The end of the loop, and of the statements after its `else`.
     pub(crate) fn loop_done(&mut self, at: u32) {
         let frame = self.finish(at);
         self.restore(&frame);

@@ -43,7 +43,7 @@ pub(crate) struct Symbol {
     pub meaning: Meaning,
     /// The word, slot or pointer.
     pub register: u8,
-    /// The constant, or how many bytes a pointer has at least.
+    /// The constant, how many bytes a pointer has at least, or the number that a word is always below; 0 if none is known.
     pub value: u16,
     /// The structure of a pointer's bytes, or `NOWHERE`.
     pub structure: u16,
@@ -74,6 +74,7 @@ pub(crate) struct Operand {
     pub sort: Sort,
     pub at: u32,
     pub register: u8,
+    /// As of a symbol.
     pub value: u16,
     pub structure: u16,
 }
@@ -116,6 +117,7 @@ pub(crate) enum Construct {
     Routine,
     Inlined,
     Handler,
+    /// A block of statements, or those after the `else` of a loop.
     Scope,
     If,
     Turns,
@@ -263,7 +265,7 @@ impl Placer {
 
 impl Placer {
     /// Keeps a fault, if it is the first one.
-    fn refuse_with(&mut self, fault: Fault) {
+    pub(crate) fn refuse_with(&mut self, fault: Fault) {
         if self.fault.is_none() {
             self.fault = Some(fault);
         }

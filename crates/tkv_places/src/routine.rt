@@ -152,6 +152,8 @@ impl Placer {
                 self.block(at);
             }
             ItemKind::AltEnd => self.alternative_end(at),
+            ItemKind::Group => self.group(item),
+            ItemKind::GroupEnd => self.group_end(item),
             ItemKind::CondEnd => self.condition_end(at),
             ItemKind::Else => self.otherwise(at),
             ItemKind::IfEnd => self.conditional_end(at),

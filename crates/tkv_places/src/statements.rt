@@ -140,7 +140,7 @@ impl Placer {
     pub(crate) fn put_out(&mut self, item: &Item) {
         let at = item.at;
         let operand = self.operand(0, at);
-        let to = self.refusal_way(self.asks, at);
+        let to = self.refusal_way(self.asks, item.a);
         let register = self.word_of(operand);
         self.act_to(with_registers(Opcode::Out, register, 0, 0), to, at);
         self.clear();

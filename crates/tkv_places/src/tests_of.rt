@@ -157,6 +157,27 @@ impl Placer {
         self.end(at);
     }
 
+    /// The brackets around a condition begin: a block to whose end an alternative leaves that holds. If `!` is before them, it is within a
+    /// block to whose end control leaves if none holds.
+    pub(crate) fn group(&mut self, item: &Item) {
+        if item.a != 0 {
+            self.block(item.at);
+        }
+        self.block(item.at);
+    }
+
+    /// The brackets around a condition end. If their test fails, control leaves the alternative that contains them.
+    pub(crate) fn group_end(&mut self, item: &Item) {
+        let own = self.brackets.len().saturating_sub(1).min(65_534) as u16;
+        let around = own.saturating_sub(1);
+        self.leave_if_alive(around, item.at);
+        self.end(item.at);
+        if item.a != 0 {
+            self.leave_if_alive(around.saturating_sub(1), item.at);
+            self.end(item.at);
+        }
+    }
+
     /// All alternatives are over: none holds. Then the statements follow for which one does.
     pub(crate) fn condition_end(&mut self, at: u32) {
         let frame = self.innermost(at);

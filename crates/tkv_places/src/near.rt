@@ -1,0 +1,98 @@
+//! Calls of a name that nothing has: the routine or instruction with nearly this name.
+
+use crate::declarations::{Declared, Kind, is_call, is_lock};
+use geos_opcodes::{OPCODES, Opcode};
+use tkv_syntax::{Fault, Name, Why};
+
+/// A byte of a name in lower case, or 0 past its end.
+fn byte_at(name: &Name, k: usize) -> u8 {
+    match name.get(k) {
+        Some(byte) => byte.to_ascii_lowercase(),
+        None => 0,
+    }
+}
+
+/// Whether the bytes from one place on are those of another name from another place on.
+fn is_same_from(one: &Name, i: usize, other: &Name, j: usize) -> bool {
+    for k in 0..16 {
+        if byte_at(one, i.saturating_add(k)) != byte_at(other, j.saturating_add(k)) {
+            return false;
+        }
+    }
+    true
+}
+
+/// How many bytes two names have in common at their front.
+fn common(one: &Name, other: &Name) -> usize {
+    let mut count = 0;
+    for k in 0..16 {
+        let byte = byte_at(one, k);
+        if byte == 0 || byte != byte_at(other, k) {
+            break;
+        }
+        count = k + 1;
+    }
+    count
+}
+
+/// Whether two letters are swapped at a place, and the bytes after them are the same.
+fn are_swapped(one: &Name, other: &Name, at: usize) -> bool {
+    let next = at.saturating_add(1);
+    let after = at.saturating_add(2);
+    byte_at(one, at) == byte_at(other, next)
+        && byte_at(one, next) == byte_at(other, at)
+        && is_same_from(one, after, other, after)
+}
+
+/// Whether a name of at least three letters is another one but for one letter that is wrong, missing or too many, for two that are swapped, or
+/// for the case.
+fn is_near(name: &Name, other: &Name) -> bool {
+    let at = common(name, other);
+    let next = at.saturating_add(1);
+    byte_at(name, 2) != 0
+        && (is_same_from(name, next, other, next)
+            || is_same_from(name, next, other, at)
+            || is_same_from(name, at, other, next)
+            || are_swapped(name, other, at))
+}
+
+/// The word of an opcode as a name.
+fn name_of(opcode: Opcode) -> Name {
+    let mut name = [0; 16];
+    for (k, byte) in opcode.word().as_bytes().iter().enumerate() {
+        if k < 16 {
+            name[k] = *byte;
+        }
+    }
+    name
+}
+
+/// The code of the instruction that has nearly this name; 0 if none has.
+fn near_instruction(name: &Name) -> u16 {
+    for opcode in &OPCODES {
+        let called = is_call(*opcode) || is_lock(*opcode);
+        if called && is_near(name, &name_of(*opcode)) {
+            return u16::from(opcode.code());
+        }
+    }
+    0
+}
+
+impl Declared {
+    /// The fault of a call of a name that neither a routine nor an instruction has.
+    pub(crate) fn no_call(&self, name: &Name, at: u32) -> Fault {
+        for global in &self.globals {
+            if matches!(global.kind, Kind::Routine) && is_near(name, &global.name) {
+                return Fault {
+                    other: global.at,
+                    number: u16::MAX,
+                    ..Fault::new(Why::NoCall, at)
+                };
+            }
+        }
+        Fault {
+            number: near_instruction(name),
+            ..Fault::new(Why::NoCall, at)
+        }
+    }
+}
