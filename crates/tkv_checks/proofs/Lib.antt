@@ -1,0 +1,3 @@
+mod Leads
+mod Closings
+mod Reading

@@ -1,0 +1,4 @@
+pub mod Places
+pub mod Items
+pub mod Walks
+pub mod Checked
