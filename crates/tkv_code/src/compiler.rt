@@ -2,6 +2,7 @@
 
 ghost use Rattle.std.specs.Prelude.{◌≤◌, length, IfOk, IfErr};
 ghost use Rattle.geos_verify.specs.Rules.{Accepted};
+ghost use Rattle.tkv_checks.specs.Checked.{IsWritten};
 
 use crate::emitter::{Coded, code_of};
 use crate::skeleton::{skeleton, with_budgets};
@@ -10,7 +11,8 @@ use geos_image::{Image, Routine, Row};
 use geos_infer::{FindError, find_image};
 use geos_verify::{Checked, Reject, check};
 use std::alloc::Global;
-use tkv_places::{Declared, PlacedRoutine, declare, place_routine};
+use tkv_checks::first_other;
+use tkv_places::{Declared, Placed, PlacedRoutine, declare, place_routine};
 use tkv_syntax::{Fault, ItemKind, Why, name_at, parse_source};
 
 /// What a source is compiled to.
@@ -18,6 +20,8 @@ use tkv_syntax::{Fault, ItemKind, Why, name_at, parse_source};
 pub struct Compiled {
     /// The image, which the verifier accepted.
     pub checked: Checked,
+    /// The placed routines, whose statements their code carries out.
+    pub placed: Vec<Vec<Placed>>,
     /// Of each instruction, where the source says it.
     pub places: Vec<u32>,
 }
@@ -28,6 +32,7 @@ struct Program {
     routines: Vec<Routine>,
     /// Where the source declares each.
     heads: Vec<u32>,
+    placed: Vec<Vec<Placed>>,
     code: Vec<Coded>,
 }
 
@@ -56,14 +61,14 @@ impl Program {
         Ok(code.len() as u16)
     }
 
-    /// Adds a public routine.
+    /// Adds a public routine, and returns what is declared besides it.
     fn add(
         &mut self,
         alloc: Global,
         text: &[u8],
-        routine: &PlacedRoutine,
+        routine: PlacedRoutine,
         at: u32,
-    ) -> Result<(), Fault> {
+    ) -> Result<Declared, Fault> {
         let code = tidied(alloc, code_of(alloc, &routine.placed)?)?;
         let count = self.append(&code, at)?;
         if self.routines.len() >= 32 {
@@ -78,7 +83,8 @@ impl Program {
             entry: routine.entry,
         })?;
         self.heads.push(at)?;
-        Ok(())
+        self.placed.push(routine.placed)?;
+        Ok(routine.declared)
     }
 }
 
@@ -102,13 +108,13 @@ fn program_of(alloc: Global, text: &[u8]) -> Result<Program, Fault> {
     let mut program = Program {
         routines: Vec::new(alloc),
         heads: Vec::new(alloc),
+        placed: Vec::new(alloc),
         code: Vec::new(alloc),
     };
     for index in 0..declared.items().len() {
         if let Some(at) = public_routine(&declared, index) {
             let routine = place_routine(alloc, declared, index)?;
-            program.add(alloc, text, &routine, at)?;
-            declared = routine.declared;
+            declared = program.add(alloc, text, routine, at)?;
         }
     }
     if program.routines.is_empty() {
@@ -161,11 +167,13 @@ fn refused(code: &[Coded], reject: Reject) -> Fault {
 
 /// The image of a source, or the first fault that is found.
 fn compile_or_fault(alloc: Global, text: &[u8]) -> Result<Compiled, Fault>
-    ensures { IfOk result (λ compiled. Accepted compiled.checked) }
+    ensures accepted { IfOk result (λ compiled. Accepted compiled.checked) }
+    ensures written { IfOk result (λ compiled. IsWritten compiled.checked compiled.placed.items) }
 {
     let Program {
         routines,
         heads,
+        placed,
         code,
     } = program_of(alloc, text)?;
     let image = image_of(alloc, routines, &heads, &code)?;
@@ -176,13 +184,19 @@ fn compile_or_fault(alloc: Global, text: &[u8]) -> Result<Compiled, Fault>
             return Err(refused(&code, reject));
         }
     };
-    // For what `image` says of it: the verifier accepted it.
-    let _accepted = checked.image();
+    if let Some(r) = first_other(checked.image(), &placed) {
+        let at = heads.get(usize::from(r)).copied().unwrap_or(0);
+        return Err(Fault::new(Why::OtherCode, at));
+    }
     let mut places = Vec::new(alloc);
     for coded in &code {
         places.push(coded.at)?;
     }
-    Ok(Compiled { checked, places })
+    Ok(Compiled {
+        checked,
+        placed,
+        places,
+    })
 }
 
 /// The fault with a place that the source has.
@@ -197,10 +211,12 @@ fn within(text: &[u8], fault: Fault) -> Fault
 }
 
 /// The image of a source, which the verifier accepts. Rows and numbers of steps are found as for an assembly text, and the verifier decides
-/// here: what it refuses is a fault at the place that the source says it. A fault's place is one of the source, or its end, so that
+/// here: what it refuses is a fault at the place that the source says it. Each routine's code is then compared with the placed routine: a run
+/// of it does what the placed routine's statement says (`tkv_meaning`). A fault's place is one of the source, or its end, so that
 /// `place_of` gives a line that the source has. `Why::Memory` may come at any source.
 pub fn compile(alloc: Global, text: &[u8]) -> Result<Compiled, Fault>
     ensures accepted { IfOk result (λ compiled. Accepted compiled.checked) }
+    ensures written { IfOk result (λ compiled. IsWritten compiled.checked compiled.placed.items) }
     ensures place { IfErr result (λ fault. fault.at ≤ length text.now) }
 {
     match compile_or_fault(alloc, text) {

@@ -144,16 +144,18 @@ impl Emitter {
         }
     }
 
-    /// Puts all waiting rungs here, where control does not fall through.
+    /// Puts all waiting rungs here, where control does not fall through. Those of an inner closing come first, since they lead to the
+    /// others.
     fn put_waiting(&mut self) {
-        for _ in 0..self.waiting.len() {
-            let Some(rung) = self.waiting.pop() else {
+        for k in 0..self.waiting.len() {
+            let Some(rung) = self.waiting.get(k).copied() else {
                 break;
             };
             self.set_here(rung.label);
             self.emit(rung.instr, rung.at);
             self.emit_to(jump(), rung.to, rung.at);
         }
+        self.waiting.truncate(0);
     }
 
     /// Puts the label here, after the rungs that lead to it.

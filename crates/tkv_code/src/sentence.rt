@@ -1,17 +1,18 @@
 //! Faults as sentences.
 
+use geos_opcodes::Opcode;
 use geos_text::put_numbered;
 use std::alloc::AllocError;
 use tkv_syntax::{Fault, Why, name_at, place_of};
 
 /// The sentence of each fault, in the order of `Why`. `@` stands for the name at the fault's offset, `~` for the name at its other offset,
-/// `^` for the line of that, `#` for the number, and `$` for the word.
-static SENTENCES: [(Why, &str); 50] = [
+/// `^` for the line of that, `#` for the number, `$` for the word, and `%` for what a call may have meant.
+static SENTENCES: [(Why, &str); 68] = [
     (Why::Memory, "memory is refused"),
     (Why::TooLong, "a source has at most 1,048,576 bytes"),
     (
         Why::NoWord,
-        "no word of the language begins with this; & is its only operator on bits beside shifts, and it has no strings",
+        "no word of the language begins with this: it has no strings, & and shifts are its only operators on bits, and // starts a comment",
     ),
     (
         Why::BadNumber,
@@ -21,34 +22,116 @@ static SENTENCES: [(Why, &str); 50] = [
     (Why::Expected, "expected $"),
     (
         Why::ExpectedValue,
-        "expected a value: a number without a sign, a name or a bracket",
+        "expected a value: a number, a name, a call or a bracket; p.w[0] reads a word through a pointer",
+    ),
+    (
+        Why::NoSign,
+        "expected a value: write 65535 for -1, 0 - x for -x, and n = n + 1 for n++ and n += 1",
+    ),
+    (
+        Why::NoTruth,
+        "a comparison is not a value: only if and while test it, and && or || joins two",
     ),
     (
         Why::ExpectedCondition,
-        "expected a condition, such as x < y",
+        "expected a condition, such as x != 0, x < y or !(x < y)",
+    ),
+    (
+        Why::Reserved,
+        "@ is a word of the language and does not fit here: a name must be another word",
+    ),
+    (
+        Why::ExpectedFn,
+        "expected a declaration: fn, pub fn, const or struct; statements are between the { and } of a routine",
+    ),
+    (
+        Why::Inner,
+        "a routine contains no declaration: close the routine by } before this, or move this out",
+    ),
+    (
+        Why::ExpectedParam,
+        "expected a parameter, such as n, n <= 9, b: mem, b: vm, b: group or p: Note in b, and a comma between two",
+    ),
+    (
+        Why::ExpectedField,
+        "expected a field, such as money: word, tag: byte or list: word[4]",
+    ),
+    (Why::Empty, "a statement is before each ;: remove this one"),
+    (
+        Why::NoStatement,
+        "no statement begins with @: let x = 1; names a word, out(x)?; prints it, and else if tests again",
+    ),
+    (
+        Why::NoBody,
+        "a { does not follow this: a lock names its block before, as in mlock(h)? as b { .. }",
+    ),
+    (
+        Why::ExpectedFor,
+        "expected a for such as for i in 0..10 { .. }, where i counts from 0 to 9",
+    ),
+    (
+        Why::ExpectedMax,
+        "expected a bound of the iterations before the {, as in max 100",
     ),
     (Why::NotRefusable, "this is never refused: remove the ?"),
-    (Why::NotSettable, "this cannot be set"),
+    (
+        Why::NotSettable,
+        "this cannot be set: a word of let, a parameter or an access can, and a constant or the name that a for counts cannot",
+    ),
     (Why::ManyParameters, "a routine has at most 8 parameters"),
     (
         Why::ExpectedLock,
         "expected mlock, vlock, ilock, mnew or vnew before as; ilock also names a pointer",
     ),
-    (Why::Twice, "@ is already a name, since line ^"),
-    (Why::Unknown, "@ names nothing here"),
-    (Why::NoWordHere, "@ is not a word"),
-    (Why::NoConstant, "expected a constant"),
-    (Why::NoBlock, "expected a locked block"),
-    (Why::NoPointer, "expected a pointer"),
+    (
+        Why::Twice,
+        "@ is already a name, since line ^: choose another one",
+    ),
+    (
+        Why::Instruction,
+        "@ is the name of an instruction: choose another one",
+    ),
+    (
+        Why::Unknown,
+        "@ names nothing here: declare it before, in this block of statements or one around it",
+    ),
+    (Why::NoCall, "@ is neither a routine nor an instruction: %"),
+    (
+        Why::LockOnly,
+        "@ locks a block for statements: write @(..)? as b { .. }",
+    ),
+    (
+        Why::NoWordHere,
+        "@ is not a word: read one through a pointer, as in p.w[0], or call the routine that returns one",
+    ),
+    (
+        Why::NoConstant,
+        "expected a constant: a number, or a name that const or struct declares",
+    ),
+    (
+        Why::NoBlock,
+        "expected a locked block: the name after as, or a parameter such as b: vm",
+    ),
+    (
+        Why::NoPointer,
+        "expected a pointer: deref and caelt return one, as in let p = deref(b, chunk, 8)?",
+    ),
     (Why::Arguments, "@ takes # arguments"),
-    (Why::NoField, "there is no field @"),
+    (
+        Why::NoField,
+        "there is no field @: deref and caelt name the structure, and p.w[n] and p.b[n] need none",
+    ),
     (
         Why::FieldIndex,
-        "an array of fields requires an index, and nothing else has one",
+        "an array of fields, w and b require an index, as in p.list[0] or p.w[0], and nothing else has one",
     ),
     (
         Why::ConstantRange,
-        "the constant does not fit a word, is divided by 0, or is the 0 of a fail",
+        "a constant is from 0 to 65535, a divisor is not 0, and a shift is at most 15",
+    ),
+    (
+        Why::FailZero,
+        "fail takes a number from 1 to 65535, or none",
     ),
     (
         Why::NoInstruction,
@@ -62,10 +145,13 @@ static SENTENCES: [(Why, &str); 50] = [
         Why::NoWayOut,
         "this may be refused, and the routine always returns a result: write else here, or ? after its result",
     ),
-    (Why::Unset, "@ is not set on every path here"),
+    (
+        Why::Unset,
+        "@ is not set on every path here: set it before, as in @ = 0",
+    ),
     (
         Why::WhyUnknown,
-        "why is not known here: a fail without a number does not set it",
+        "why is not known here: read it in the statements that handle a refusal, and give each fail a number, as in fail 20",
     ),
     (
         Why::Stale,
@@ -73,27 +159,39 @@ static SENTENCES: [(Why, &str); 50] = [
     ),
     (
         Why::NotFetched,
-        "a pointer is not fetched on every path here",
+        "a pointer is not fetched on every path here: fetch it before, by deref or caelt",
     ),
     (
         Why::NoWordLeft,
         "out of words: seven are taken here; { .. } ends names earlier, and a called routine takes words too",
     ),
-    (Why::NoPointerLeft, "out of pointers: four are taken here"),
-    (Why::NoSlotLeft, "out of slots: four blocks are locked here"),
+    (
+        Why::NoPointerLeft,
+        "out of pointers: four are taken here; { .. } ends names earlier",
+    ),
+    (
+        Why::NoSlotLeft,
+        "out of slots: four blocks are locked here; end a lock before",
+    ),
     (
         Why::NoCounterLeft,
-        "out of counters: loops nest at most four deep",
+        "out of counters: loops nest at most four deep, with those of the routines that are called",
     ),
-    (Why::Unreached, "nothing leads here"),
-    (Why::NoLoop, "this is not in a loop"),
+    (
+        Why::Unreached,
+        "nothing leads here: remove it, or the statement that always leaves before it",
+    ),
+    (
+        Why::NoLoop,
+        "this is not in a loop: return ends the routine, and the else of a loop is not in that loop",
+    ),
     (
         Why::Commits,
-        "@ writes the file, and a block of it is locked here",
+        "@ writes the file, and a block of it is locked here: call it after the lock",
     ),
     (
         Why::PastEnd,
-        "this is past the # bytes that the pointer is known to have",
+        "this is past the # bytes that the pointer is known to have: fetch it with a greater size",
     ),
     (
         Why::Dropped,
@@ -101,23 +199,48 @@ static SENTENCES: [(Why, &str); 50] = [
     ),
     (
         Why::Values,
-        "the number of values does not match: a routine with a result returns one on every path",
+        "the call gives more or fewer values than are named here: docs/INSTRUCTIONS.md says how many",
     ),
-    (Why::CallsItself, "@ calls itself, which no routine may"),
+    (
+        Why::Returns,
+        "a routine with -> returns one value on every path, and a routine without -> returns none",
+    ),
+    (
+        Why::CallsItself,
+        "@ calls itself, which no routine may: write a loop",
+    ),
     (
         Why::Public,
         "a public routine is called only from outside, takes words and lent blocks, as b: vm, and returns no result",
     ),
-    (Why::Kinds, "this is of a different kind"),
-    (Why::NoTurn, "a loop has at least one iteration"),
-    (Why::TooMany, "the program is too large"),
+    (
+        Why::Kinds,
+        "this is of another kind: a block must be mem, vm or group as the parameter says, and a pointer lead into the same block",
+    ),
+    (
+        Why::NoTurn,
+        "a loop has at least one iteration: raise its end, its max or its step",
+    ),
+    (
+        Why::TooMany,
+        "the program is too large or nests too deep: shorten it",
+    ),
     (
         Why::NothingRefused,
         "nothing here can be refused: remove the else",
     ),
-    (Why::AlwaysOrNever, "this is always true, or never"),
-    (Why::NoEnd, "no path leads to the end of the routine"),
-    (Why::NoRoutine, "a program has at least one public routine"),
+    (
+        Why::AlwaysOrNever,
+        "this is always true, or never: remove the test",
+    ),
+    (
+        Why::NoEnd,
+        "no path leads to the end of the routine: let one path end without fail",
+    ),
+    (
+        Why::NoRoutine,
+        "a program has at least one public routine: write pub before its fn",
+    ),
     (
         Why::Refused,
         "the verifier refuses this by rule V#: test the index against its greatest value before it, as in if i <= 7 { .. }, or write ? after it",
@@ -125,6 +248,10 @@ static SENTENCES: [(Why, &str); 50] = [
     (
         Why::NoSteps,
         "no bound on the steps of @ is found: bound the number of iterations by a test before the loop",
+    ),
+    (
+        Why::OtherCode,
+        "the code of @ is not what the source says: this is a fault of the compiler, please report it",
     ),
 ];
 
@@ -136,6 +263,23 @@ fn put_name(out: &mut Vec<u8>, text: &[u8], at: u32) -> Result<(), AllocError> {
         }
     }
     Ok(())
+}
+
+/// Appends what the call of a name may have meant that nothing has.
+fn put_meant(out: &mut Vec<u8>, text: &[u8], fault: &Fault) -> Result<(), AllocError> {
+    if fault.number == 0 {
+        return out.extend_from_slice(b"fn declares a routine, and out(x)? prints a word");
+    }
+    out.extend_from_slice(b"perhaps ")?;
+    match Opcode::from_code(fault.number.min(255) as u8) {
+        Some(opcode) => {
+            for byte in opcode.word().as_bytes() {
+                out.push(byte.to_ascii_lowercase())?;
+            }
+        }
+        None => put_name(out, text, fault.other)?,
+    }
+    out.extend_from_slice(b" is meant")
 }
 
 /// Appends a fault as a sentence, after its line and column. `AllocError` if the allocator refuses memory.
@@ -151,6 +295,7 @@ pub fn put_sentence(out: &mut Vec<u8>, text: &[u8], fault: &Fault) -> Result<(),
             b'~' => put_name(out, text, fault.other)?,
             b'^' => put_numbered(out, "", place_of(text, fault.other).line as u64)?,
             b'#' => put_numbered(out, "", u64::from(fault.number))?,
+            b'%' => put_meant(out, text, fault)?,
             b'$' => out.extend_from_slice(fault.word.text().as_bytes())?,
             other => out.push(other)?,
         }
