@@ -5,7 +5,7 @@ ghost use Rattle.geos_dump.specs.Sides.{IsOnlyRead, no_block};
 ghost use Rattle.vm_file.specs.State.{pair_of};
 ghost use Rattle.file_copies.specs.Sides.{contents_on, copied};
 
-use crate::error::CopyError;
+use crate::error::Fault;
 use crate::sides::{Side, count, directory, entry_at, read_block};
 use crate::spelling::zeros;
 use std::alloc::Global;
@@ -32,7 +32,7 @@ fn same_block<D: Device + Drop, E: Device + Drop>(
     other: &mut VmFile<E>,
     sides: Sides,
     i: usize,
-) -> Result<bool, CopyError>
+) -> Result<bool, Fault>
     requires in_one { i < length (contents_on sides.one (pair_of D.medium.image one.old)).blocks }
     requires in_other { i < length (contents_on sides.other (pair_of E.medium.image other.old)).blocks }
     ensures same { D.medium.honest one.old.device → E.medium.honest other.old.device → IfOk result (λ b. b ≡ true
@@ -49,15 +49,15 @@ fn same_block<D: Device + Drop, E: Device + Drop>(
         zeros(alloc, usize::from(entry.len)),
         zeros(alloc, usize::from(copy.len)),
     ) else {
-        return Err(CopyError::Memory);
+        return Err(Fault::Memory);
     };
     match read_block(one, sides.one, entry.h, &mut here) {
         Ok(()) => {}
-        Err(Disk) => return Err(CopyError::Disk),
+        Err(Disk) => return Err(Fault::Disk),
     }
     match read_block(other, sides.other, copy.h, &mut there) {
         Ok(()) => Ok(are_same(&here, &there)),
-        Err(Disk) => Err(CopyError::Disk),
+        Err(Disk) => Err(Fault::Disk),
     }
 }
 
@@ -87,7 +87,7 @@ fn same_contents<D: Device + Drop, E: Device + Drop>(
     one: &mut VmFile<D>,
     other: &mut VmFile<E>,
     sides: Sides,
-) -> Result<bool, CopyError>
+) -> Result<bool, Fault>
     ensures same { D.medium.honest one.old.device → E.medium.honest other.old.device → IfOk result (λ b. b ≡ true
         → contents_on sides.one (pair_of D.medium.image one.old) ≡ contents_on sides.other (pair_of E.medium.image other.old)) }
     ensures one_read { IsOnlyRead D.medium one.old one.new }
@@ -113,7 +113,7 @@ pub(crate) fn is_copy<D: Device + Drop, E: Device + Drop>(
     file: &mut VmFile<D>,
     copy: &mut VmFile<E>,
     side: Side,
-) -> Result<bool, CopyError>
+) -> Result<bool, Fault>
     ensures same { D.medium.honest file.old.device → E.medium.honest copy.old.device → IfOk result (λ b. b ≡ true
         → copied side (pair_of D.medium.image file.old) ≡ pair_of E.medium.image copy.old) }
     ensures file_read { IsOnlyRead D.medium file.old file.new }

@@ -5,13 +5,22 @@ use thiserror::Error;
 /// Why a file was not copied.
 #[derive(Clone, Copy, Debug, Drop, PartialEq, Eq, Error)]
 pub enum CopyError {
-    /// The directories with their blocks are longer than the area of the copy.
-    #[error("too big")]
-    TooBig,
+    /// The directories with their blocks take so many bytes, and an area of the copy has fewer.
+    #[error("too big: {0} bytes")]
+    TooBig(u32),
     /// An allocation was refused.
     #[error("memory")]
     Memory,
     /// A device failed, or did not return what was written.
     #[error("disk")]
+    Disk,
+}
+
+/// Why a file was not read, or its copy not written.
+#[derive(Clone, Copy, Drop)]
+pub(crate) enum Fault {
+    /// An allocation was refused.
+    Memory,
+    /// A device failed, or did not return what was written.
     Disk,
 }

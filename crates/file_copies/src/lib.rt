@@ -6,6 +6,7 @@
 mod compare;
 mod duplicate;
 mod error;
+mod lengths;
 mod sides;
 mod spelling;
 

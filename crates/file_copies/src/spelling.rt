@@ -5,7 +5,7 @@ ghost use Rattle.geos_dump.specs.Sides.{IsOnlyRead};
 ghost use Rattle.vm_file.specs.State.{pair_of};
 ghost use Rattle.file_copies.specs.Sides.{contents_on};
 
-use crate::error::CopyError;
+use crate::error::Fault;
 use crate::sides::{Side, count, directory, entry_at, read_block};
 use std::alloc::Global;
 use vm_file::{Device, Disk, VmFile};
@@ -13,21 +13,21 @@ use vm_file::{Device, Disk, VmFile};
 /// How many bytes precede the first area.
 const FRONT: usize = 1_024;
 
-/// A vector of so many zeros. `CopyError::Memory` if an allocation is refused.
-pub(crate) fn zeros(alloc: Global, len: usize) -> Result<Vec<u8>, CopyError>
+/// A vector of so many zeros. `Memory` if an allocation is refused.
+pub(crate) fn zeros(alloc: Global, len: usize) -> Result<Vec<u8>, Fault>
     ensures { IfOk result (λ bytes. length bytes.items ≡ len) }
 {
     match Vec::from_elem(alloc, 0u8, len) {
         Ok(bytes) => Ok(bytes),
-        Err(_) => Err(CopyError::Memory),
+        Err(_) => Err(Fault::Memory),
     }
 }
 
-/// Appends bytes. `CopyError::Memory` if an allocation is refused.
-fn put(out: &mut Vec<u8>, bytes: &[u8]) -> Result<(), CopyError> {
+/// Appends bytes. `Memory` if an allocation is refused.
+fn put(out: &mut Vec<u8>, bytes: &[u8]) -> Result<(), Fault> {
     match out.extend_from_slice(bytes) {
         Ok(()) => Ok(()),
-        Err(_) => Err(CopyError::Memory),
+        Err(_) => Err(Fault::Memory),
     }
 }
 
@@ -44,7 +44,7 @@ fn put_block<D: Device + Drop>(
     file: &mut VmFile<D>,
     side: Side,
     i: usize,
-) -> Result<(), CopyError>
+) -> Result<(), Fault>
     requires { i < length (contents_on side (pair_of D.medium.image file.old)).blocks }
     ensures { IsOnlyRead D.medium file.old file.new }
 {
@@ -55,7 +55,7 @@ fn put_block<D: Device + Drop>(
     };
     match read_block(file, side, entry.h, &mut block) {
         Ok(()) => {}
-        Err(Disk) => return Err(CopyError::Disk),
+        Err(Disk) => return Err(Fault::Disk),
     }
     match put(out, &bytes_of(entry.h, entry.uid, entry.len)) {
         Ok(()) => put(out, &block),
@@ -69,7 +69,7 @@ fn put_blocks<D: Device + Drop>(
     out: &mut Vec<u8>,
     file: &mut VmFile<D>,
     side: Side,
-) -> Result<(), CopyError>
+) -> Result<(), Fault>
     ensures { IsOnlyRead D.medium file.old file.new }
 {
     for i in 0..count(file, side) {
@@ -87,7 +87,7 @@ fn put_directory<D: Device + Drop>(
     out: &mut Vec<u8>,
     file: &mut VmFile<D>,
     side: Side,
-) -> Result<(), CopyError>
+) -> Result<(), Fault>
     ensures { IsOnlyRead D.medium file.old file.new }
 {
     let count = (count(file, side) as u16).to_le_bytes();
@@ -125,7 +125,7 @@ pub(crate) fn spelled<D: Device + Drop>(
     file: &mut VmFile<D>,
     area: u32,
     side: Side,
-) -> Result<Vec<u8>, CopyError>
+) -> Result<Vec<u8>, Fault>
     ensures { IsOnlyRead D.medium file.old file.new }
 {
     let mut out = match zeros(alloc, FRONT) {
@@ -138,11 +138,7 @@ pub(crate) fn spelled<D: Device + Drop>(
         Err(error) => return Err(error),
     }
     match put_directory(alloc, &mut out, file, Side::Saved) {
-        Ok(()) => {}
-        Err(error) => return Err(error),
+        Ok(()) => Ok(out),
+        Err(error) => Err(error),
     }
-    if out.len() > FRONT + area as usize {
-        return Err(CopyError::TooBig);
-    }
-    Ok(out)
 }
