@@ -1,23 +1,47 @@
 //! VM files of the system: they are made, and opened under their lock.
 
-ghost use Rattle.std.specs.Prelude.{◌≡◌, IfOk, true};
+ghost use Rattle.std.specs.Prelude.{◌≡◌, ◌+◌, ◌*◌, IfOk, true};
 ghost use Rattle.geos_shell.specs.Limits.{IsArea};
+ghost use Rattle.vm_file.specs.DiskFile.{len_of};
 
 use crate::fault::FileFault;
 use geos_shell::{FileLock, Lockable, NewFile, Reason, Sharing, StreamFault};
 use std::fs::File;
 use vm_file::{Disk, FileDevice, VmFile, device_length};
 
+/// A device for a VM file with areas of so many bytes, on a file that is empty so far.
+pub(crate) fn sized<'a>(path: &'a str, file: File, area: u32) -> Result<FileDevice, StreamFault<'a>>
+    ensures { IfOk result (λ device. len_of device ≡ 1024 + 2 * area) }
+{
+    match FileDevice::of_length(file, device_length(area)) {
+        Ok(device) => Ok(device),
+        Err(Disk) => Err(StreamFault::Write(path, Reason::Other)),
+    }
+}
+
 /// Writes a VM file with areas of so many bytes into a file that is empty so far.
 fn fill_new<'a>(rt: &HostRuntime, path: &'a str, file: File, area: u32) -> Result<(), FileFault<'a>>
     requires { IsArea area }
 {
-    let Ok(device) = FileDevice::of_length(file, device_length(area)) else {
-        return Err(FileFault::Stream(StreamFault::Write(path, Reason::Other)));
-    };
+    let device = sized(path, file, area)?;
     match VmFile::create(rt.alloc(), device, area) {
         Ok(_file) => Ok(()),
         Err((_device, error)) => Err(FileFault::Create(error)),
+    }
+}
+
+/// Gives a new file its path if it was filled, and otherwise removes it.
+pub(crate) fn finished<'a>(
+    rt: &HostRuntime,
+    new: NewFile<'a>,
+    filled: Result<(), FileFault<'a>>,
+) -> Result<(), FileFault<'a>> {
+    match filled {
+        Ok(()) => Ok(new.finish(rt)?),
+        Err(fault) => {
+            new.discard(rt);
+            Err(fault)
+        }
     }
 }
 
@@ -33,13 +57,7 @@ pub fn make_file<'a>(rt: &HostRuntime, path: &'a str, area: u32) -> Result<(), F
         Ok(file) => fill_new(rt, path, file, area),
         Err(fault) => Err(FileFault::Stream(fault)),
     };
-    match filled {
-        Ok(()) => Ok(new.finish(rt)?),
-        Err(fault) => {
-            new.discard(rt);
-            Err(fault)
-        }
-    }
+    finished(rt, new, filled)
 }
 
 /// A device on the file with a path, and the lock on it.

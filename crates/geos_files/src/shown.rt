@@ -8,7 +8,7 @@ use geos_dump::{Detail, DumpError, dump, map, read_areas};
 use geos_shell::print;
 
 /// The contents of a VM file, as text. The lock is released before the text is printed: its reader may open the file next.
-fn text_of_file<'a>(
+pub(crate) fn text_of_file<'a>(
     rt: &HostRuntime,
     path: &'a str,
     detail: Detail,
