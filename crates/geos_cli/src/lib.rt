@@ -9,7 +9,7 @@
 //! | script | `run_script`, `run_script_in_mode`: carry out the commands of a script, and print what calls output |
 //! | call | `run_call`: carries out one call, which words name |
 //! | bytes | `put_bytes`, `get_bytes`: write and read a chunk or an item |
-//! | progress | the commands of a script, one after another, printed in a form |
+//! | progress | `Progress`: the commands of a script, one after another, printed in a form |
 //! | in_form | `run_script_in_form`, `run_call_in_form`: the same, printed in a form |
 //! | traced | `trace_call`, `trace_call_watched`: one call, of whose steps notes are taken |
 //! | with_names | `run_script_with_names`: carries out a script whose lines write names |
@@ -30,6 +30,7 @@ pub use crate::bytes::{Place, get_bytes, put_bytes};
 pub use crate::call::run_call;
 pub use crate::in_form::{run_call_in_form, run_script_in_form};
 pub use crate::law::{other_calls_keep, plain_scripts_do_the_same};
+pub use crate::progress::Progress;
 pub use crate::script::{Mode, RefusedCommand, run_script, run_script_in_mode};
 pub use crate::session::run_session;
 pub use crate::traced::{NotedCall, TraceFault, TracedCall, trace_call, trace_call_watched};

@@ -5,8 +5,9 @@ ghost use Rattle.vm_file.specs.Device.{Rose};
 ghost use Rattle.vm_file.specs.State.{Steadily};
 ghost use Rattle.geos_input.specs.declared.fault.ScriptFault.TheVariants.{Memory, Write};
 ghost use Rattle.geos_input.specs.Fault.{KeptUnless};
-ghost use Rattle.script_commands.specs.MayCommit.{first_commit, may_commit};
+ghost use Rattle.script_commands.specs.MayCommit.{may_commit};
 ghost use Rattle.script_commands.specs.Outputs.{IsGiven};
+ghost use Rattle.geos_cli.specs.Begun.{IsBegunOn};
 ghost use Rattle.geos_cli.specs.InForm.{StoppedNext, StoppedShown};
 ghost use Rattle.script_commands.specs.Lines.{IsAdmitted};
 ghost use Rattle.geos_cli.specs.WithNames.{RanNoting};
@@ -67,7 +68,7 @@ fn carry_out_noting<W: Write, D: Device + Drop>(
 
 /// How far a script is: what lasts from one of its commands to the next.
 #[derive(Drop)]
-pub(crate) struct Progress {
+pub struct Progress {
     /// The machine that runs its calls.
     machine: Machine,
     /// The first pc of an instruction of the image that commits.
@@ -78,8 +79,8 @@ pub(crate) struct Progress {
 
 impl Progress {
     /// Before the first command.
-    pub(crate) fn new(checked: &Checked) -> Progress
-        ensures { result.first ≡ first_commit checked.now.points }
+    pub fn new(checked: &Checked) -> Progress
+        ensures { IsBegunOn checked.now result }
     {
         Progress {
             machine: Machine::new(),
@@ -88,9 +89,11 @@ impl Progress {
         }
     }
 
-    /// Carries out the next command as `carry_out_noting` does, on the image that it was begun with. What was printed is flushed before, where
-    /// this command may commit, or the last one may have; `Write` also where that fails, and the command is not begun then.
-    pub(crate) fn carry_out_next<W: Write, D: Device + Drop>(
+    /// Carries out the next command on the image that it was begun on, and prints its output in a form. Returns the command's result, and the
+    /// first word of its output. What was printed is flushed before, where this command may commit, or the last one may have; `Write` where
+    /// that fails, and the command is not begun then. `Write` also if the writer fails later, and `Memory` if there is no memory for the
+    /// output: the command is done in both cases.
+    pub fn carry_out_next<W: Write, D: Device + Drop>(
         &mut self,
         alloc: Global,
         form: Form,
@@ -101,12 +104,12 @@ impl Progress {
     ) -> Result<(Result<(), Refusal>, Option<u16>), ScriptFault>
         requires admitted { IsAdmitted checked.now command.now }
         requires unlocked { NoneLocked kernel.old.core.blocks }
-        requires first { self.old.first ≡ first_commit checked.now.points }
+        requires begun { IsBegunOn checked.now self.old }
         ensures ok { IfOk result (λ came. RanNoting D.medium form checked.now command.now came.0 came.1 kernel.old kernel.new
             (W.contents out.old.stream) (W.contents out.new.stream)) }
         ensures stopped { IfErr result (λ _. StoppedNext D.medium form checked.now command.now kernel.old kernel.new
             (W.contents out.old.stream) (W.contents out.new.stream)) }
-        ensures first { self.new.first ≡ self.old.first }
+        ensures begun { IsBegunOn checked.now self.new }
         ensures honest { D.medium.honest kernel.new.device ↔ D.medium.honest kernel.old.device }
         ensures unlocked { NoneLocked kernel.new.core.blocks }
         ensures sees { SeesDevice D.medium kernel.old × SeesDevice D.medium kernel.new }

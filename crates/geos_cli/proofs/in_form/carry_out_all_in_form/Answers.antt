@@ -39,7 +39,7 @@ loop-numbered-preserved g c =
       c.carry_out_next.ensures.sees.1,
       steadily_then g.D.Device.medium (vm_file_of c.args.kernel.now) (vm_file_of c.loop-numbered.kernel)
           (vm_file_of c.carry_out_next.new.kernel) c.loop-numbered.invariant.5 c.carry_out_next.ensures.steadily,
-      c.carry_out_next.ensures.first ∙ c.loop-numbered.invariant.6,
+      c.carry_out_next.ensures.begun,
     )
 
 pub returns-in_err-done-clause-stopped : goal.returns-in_err-done-clause-stopped

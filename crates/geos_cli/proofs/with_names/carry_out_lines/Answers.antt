@@ -90,7 +90,7 @@ loop-line-preserved g c =
       c.carry_out_next.ensures.sees.1,
       steadily_then g.D.Device.medium (vm_file_of c.args.kernel.now) (vm_file_of c.loop-line.kernel)
           (vm_file_of c.carry_out_next.new.kernel) c.loop-line.invariant.5 c.carry_out_next.ensures.steadily,
-      c.carry_out_next.ensures.first ∙ c.loop-line.invariant.6,
+      c.carry_out_next.ensures.begun,
     )
 
 pub returns-clause-ran : goal.returns-clause-ran

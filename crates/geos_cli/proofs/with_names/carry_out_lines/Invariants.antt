@@ -4,8 +4,8 @@ use Rattle.vm_blocks.specs.Listed.{NoneLocked}
 use Rattle.vm_file.specs.State.{Steadily}
 use Rattle.geos_kernel.specs.Files.{vm_file_of}
 use Rattle.geos_kernel.specs.View.{SeesDevice}
-use Rattle.script_commands.specs.MayCommit.{first_commit}
 use Rattle.script_commands.specs.Names.{names_of, said_by}
+use Rattle.geos_cli.specs.Begun.{IsBegunOn}
 use Rattle.geos_cli.proofs.NamedRun.{RanSoFar}
 use Rattle.geos_cli.proofs.with_names.carry_out_lines.Given as goal
 
@@ -19,4 +19,4 @@ invariant-loop-line g l =
     × NoneLocked l.kernel.core.blocks
     × SeesDevice g.D.Device.medium l.kernel
     × Steadily g.D.Device.medium (vm_file_of l.fn.kernel) (vm_file_of l.kernel)
-    × (l.progress.first ≡ first_commit l.fn.checked.points)
+    × IsBegunOn l.fn.checked l.progress
