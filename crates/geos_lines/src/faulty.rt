@@ -23,6 +23,16 @@ pub struct FaultyLine<'a> {
     pub(crate) twice: Option<Twice<'a>>,
 }
 
+impl FaultyLine<'_> {
+    /// The line where its name is used first, if the fault is that it is used twice.
+    pub fn first_use(&self) -> Option<usize> {
+        match (self.fault.why, self.twice) {
+            (Why::UsedTwice, Some(twice)) => Some(twice.first),
+            _ => None,
+        }
+    }
+}
+
 /// The faulty lines of a text.
 #[derive(Drop)]
 pub struct FaultyLines<'a> {

@@ -9,6 +9,7 @@ ghost use Rattle.geos_source.specs.Names as names;
 ghost use Rattle.geos_lines.specs.Forms.{fits, kinds_of, IsOperand, StopsHere, StopsAt};
 
 use crate::forms::{noun, put_form};
+use crate::other_machines::meaning_of;
 use crate::sentences::{
     COMMENT, Wrong, begins_comment, put_above, put_quoted, put_too_much, put_word, put_wrong,
 };
@@ -324,6 +325,23 @@ fn put_other(out: &mut Text, word: &[u8], next: Option<Word>) {
     }
 }
 
+/// What may have been meant by a word that is no label without its colon: an instruction of other machines, or one of this machine with a
+/// wrong letter.
+fn near(word: &[u8], next: Option<Word>) -> Option<&'static str> {
+    let begins_instr = match next {
+        Some(next) => Opcode::from_word(next.bytes).is_some(),
+        None => false,
+    };
+    if is_small_name(word) && (next.is_none() || begins_instr) {
+        return None;
+    }
+    let meaning = if begins_instr { None } else { meaning_of(word) };
+    match meaning {
+        Some(meaning) => Some(meaning),
+        None => nearest(word).map(|opcode| opcode.word()),
+    }
+}
+
 /// Appends what may have been meant by a word that no line begins with.
 fn put_meant(out: &mut Text, word: Word, next: Option<Word>) {
     put_word(out, word);
@@ -331,12 +349,7 @@ fn put_meant(out: &mut Text, word: Word, next: Option<Word>) {
     if is_label_apart(word.bytes, next) {
         return put_apart(out, word.bytes);
     }
-    let near = if next.is_none() && is_small_name(word.bytes) {
-        None
-    } else {
-        nearest(word.bytes).map(|opcode| opcode.word())
-    };
-    match in_right_letters(word.bytes).or(near) {
+    match in_right_letters(word.bytes).or(near(word.bytes, next)) {
         Some(right) => {
             out.put(": say ");
             out.put(right)

@@ -1,0 +1,66 @@
+//! Words of other machines in place of an instruction.
+
+/// Words of other machines, and what to say here: the nearest instruction, and its page.
+const MEANINGS: [(&str, &str); 12] = [
+    (
+        "BNE JNE BNZ JNZ BNEZ BE JE BZ JZ BEQZ CMP CMPI TEST TST",
+        "BEQ, which jumps if two words are equal (geos help BEQ)",
+    ),
+    (
+        "BGT BGE BLE BLTU BGEU BHI BLO JL JG JLE JGE JB JA JC JNC SLT",
+        "BLT, which jumps if a word is below another (geos help BLT)",
+    ),
+    (
+        "SHL LSL SAL SLL ASL MULT IMUL",
+        "MULI, which multiplies by a number, as by 2 for one bit to the left (geos help MULI)",
+    ),
+    (
+        "LSR SRL ASR SAR SRA DIV IDIV",
+        "SHR, which shifts to the right (geos help SHR)",
+    ),
+    (
+        "OR ORR ORI XOR EOR XORI",
+        "AND, and ADD and SUB: a or b is a + b - (a and b) (geos help AND)",
+    ),
+    ("NOT NEG", "SUB, from 65535 or from 0 (geos help SUB)"),
+    (
+        "INC DEC ADDI SUBI",
+        "ADD or SUB, with a word that LDI sets (geos help ADD)",
+    ),
+    (
+        "HALT HLT STOP EXIT END RETURN QUIT",
+        "RET, which ends the routine (geos help RET)",
+    ),
+    (
+        "GOTO JUMP BRA BR B J",
+        "JMP, which jumps to a label (geos help JMP)",
+    ),
+    (
+        "LOAD LD LDA LDR LW LH LHU LB LBU",
+        "LDB or LDW, which read by a pointer, or LDI with a number (geos help LDW)",
+    ),
+    (
+        "STORE ST STA STR SW SH SB",
+        "STB or STW, which write by a pointer (geos help STW)",
+    ),
+    (
+        "PRINT PUT WRITE ECHO SYSCALL INT",
+        "OUT, which outputs a word (geos help OUT)",
+    ),
+];
+
+/// Whether a word is one of those in a list, in letters of either case.
+fn is_listed(list: &str, word: &[u8]) -> bool {
+    list.split(' ')
+        .any(|listed| listed.as_bytes().eq_ignore_ascii_case(word))
+}
+
+/// What to say in place of a word that is an instruction of other machines.
+pub(crate) fn meaning_of(word: &[u8]) -> Option<&'static str> {
+    for (list, meaning) in &MEANINGS {
+        if is_listed(*list, word) {
+            return Some(*meaning);
+        }
+    }
+    None
+}
