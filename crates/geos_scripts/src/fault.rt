@@ -46,3 +46,30 @@ pub(crate) enum Fault<'a> {
     /// It is a name that the line stores after too many others.
     NameTooMany(Word<'a>),
 }
+
+impl<'a> Fault<'a> {
+    /// The word that is wrong, if one is.
+    pub(crate) fn word(&self) -> Option<Word<'a>> {
+        match *self {
+            Fault::NoName | Fault::Lent(_, _) => None,
+            Fault::NoCommand(word)
+            | Fault::Behind(word)
+            | Fault::NoRoutine(word)
+            | Fault::NotPublic(word)
+            | Fault::Ninth(word)
+            | Fault::NoNumber(word)
+            | Fault::TooHigh(word)
+            | Fault::PastBound(word, _, _)
+            | Fault::NumberBehind(word)
+            | Fault::NoHandle(word)
+            | Fault::HighHandle(word)
+            | Fault::NotAllowed(word)
+            | Fault::NotKept(word)
+            | Fault::ArrowAlone(word)
+            | Fault::NothingKept(word)
+            | Fault::BadName(word)
+            | Fault::SecondName(word)
+            | Fault::NameTooMany(word) => Some(word),
+        }
+    }
+}

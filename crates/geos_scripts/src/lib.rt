@@ -12,4 +12,4 @@ mod sentences;
 mod told;
 
 pub use names::NameUse;
-pub use told::{BadLines, tell_bad_lines};
+pub use told::{BadLines, diagnose_bad_lines, tell_bad_lines};

@@ -1,6 +1,7 @@
 //! The sentences on what is wrong with lines of scripts.
 
 use crate::fault::Fault;
+use geos_image::Image;
 use geos_lines::{Word, put_word};
 use sentence_text::Text;
 
@@ -27,7 +28,7 @@ fn text_of_unkept(word: Word) -> &'static str {
     if word.bytes.starts_with(b"$@") {
         " names no word: the block that a name stands for is as @$h"
     } else {
-        " is a name that no earlier line keeps"
+        " is a name that no earlier line keeps: end an earlier call by -> and the name"
     }
 }
 
@@ -41,28 +42,64 @@ fn put_said(out: &mut Text, word: &Word, text: &str) {
 fn put_past(out: &mut Text, word: &Word, bound: u16, index: usize) {
     put_word(out, *word);
     out.put_number(" is above ", u64::from(bound));
-    out.put_number(", the bound of w", index as u64)
+    out.put_number(", the bound of w", index as u64);
+    out.put(": use a lower number, or raise the bound in the in line of the routine")
+}
+
+/// How many names of routines a sentence has.
+const MOST_NAMES: u32 = 8;
+
+/// Writes the names of the first public routines.
+fn put_names(out: &mut Text, image: &Image) {
+    let mut before: u32 = 0;
+    for r in 0..image.count() {
+        let routine = image.routine(r);
+        if routine.public && before < MOST_NAMES {
+            out.put(if before == 0 {
+                ": public routines are "
+            } else {
+                ", "
+            });
+            out.put_bytes(routine.name_text());
+            before = before.saturating_add(1);
+        } else if routine.public && before == MOST_NAMES {
+            out.put(", ..");
+            before = before.saturating_add(1);
+        }
+    }
 }
 
 /// A call lends so many blocks, and the routine borrows another number of them.
 fn put_lent(out: &mut Text, given: usize, wanted: usize) {
     out.put_number("blocks that are lent, as by @1: ", given as u64);
-    out.put_number("; that the routine borrows: ", wanted as u64)
+    out.put_number("; that the routine borrows: ", wanted as u64);
+    out.put(if wanted == 0 {
+        ": omit the blocks"
+    } else {
+        ": write @ and a handle for each, after the numbers"
+    })
 }
 
 /// Writes what is wrong with a call.
-fn put_call(out: &mut Text, fault: &Fault) {
+fn put_call(out: &mut Text, image: &Image, fault: &Fault) {
     match fault {
         Fault::NoName => out.put("call requires a routine, as call add 2 3; its name is missing"),
-        Fault::NoRoutine(word) => put_said(out, word, " is the name of no routine"),
-        Fault::NotPublic(word) => put_said(out, word, " is a routine that is not public"),
+        Fault::NoRoutine(word) => {
+            put_said(out, word, " is the name of no routine");
+            put_names(out, image)
+        }
+        Fault::NotPublic(word) => put_said(
+            out,
+            word,
+            " is a routine that is not public: write public after its name in the text",
+        ),
         Fault::Ninth(word) => put_said(
             out,
             word,
             " is one number too many: a call has at most eight",
         ),
         Fault::NoNumber(word) => put_said(out, word, text_of_number(*word)),
-        Fault::TooHigh(word) => put_said(out, word, " is above 65535"),
+        Fault::TooHigh(word) => put_said(out, word, " is above 65535: use a lower number"),
         Fault::PastBound(word, bound, index) => put_past(out, word, *bound, *index),
         Fault::NumberBehind(word) => put_said(
             out,
@@ -70,7 +107,11 @@ fn put_call(out: &mut Text, fault: &Fault) {
             " comes after a block: numbers come first",
         ),
         Fault::NoHandle(word) => put_said(out, word, " is no block: a block is @ and its handle"),
-        Fault::HighHandle(word) => put_said(out, word, " has a number above 65535"),
+        Fault::HighHandle(word) => put_said(
+            out,
+            word,
+            " has a number above 65535: handles of blocks are 1 to 1024",
+        ),
         Fault::Lent(given, wanted) => put_lent(out, *given, *wanted),
         _ => put_naming(out, fault),
     }
@@ -111,7 +152,7 @@ fn put_naming(out: &mut Text, fault: &Fault) {
 }
 
 /// Writes the sentence on what is wrong with a line; if nothing is found, that the machine does not admit the call.
-pub(crate) fn put_fault(out: &mut Text, fault: Option<Fault>) {
+pub(crate) fn put_fault(out: &mut Text, image: &Image, fault: Option<Fault>) {
     match fault {
         None => out.put("it is no command that may be asked for"),
         Some(Fault::NoCommand(word)) => put_said(out, &word, text_of_command(word)),
@@ -120,6 +161,6 @@ pub(crate) fn put_fault(out: &mut Text, fault: Option<Fault>) {
             &word,
             " is too much: nothing comes after this command",
         ),
-        Some(fault) => put_call(out, &fault),
+        Some(fault) => put_call(out, image, &fault),
     }
 }

@@ -38,10 +38,48 @@ fn sentences<'a>(
     for line in bad {
         names.come_to(line)?;
         put_line_number(&mut told, line.number);
-        put_fault(&mut told, fault_of(image, &names, line.text));
+        put_fault(&mut told, image, fault_of(image, &names, line.text));
         told.put("\n");
     }
     Ok(told)
+}
+
+/// How many bad lines have a diagnostic.
+const MOST_DIAGNOSED: usize = 20;
+
+/// Diagnostics on some bad lines of the script FILE: `FILE:LINE:COLUMN: error: SENTENCE`, without a column if no word is wrong.
+fn diagnostics<'a>(
+    alloc: Global,
+    file: &str,
+    image: &Image,
+    bad: &[Line<'a>],
+    mut names: Names<'a>,
+) -> Result<Text, AllocError> {
+    let mut told = Text::new(alloc);
+    for line in bad {
+        names.come_to(line)?;
+        let fault = fault_of(image, &names, line.text);
+        told.put(file);
+        told.put_number(":", line.number as u64);
+        if let Some(fault) = fault
+            && let Some(word) = fault.word()
+        {
+            told.put_number(":", (word.start as u64).saturating_add(1));
+        }
+        told.put(": error: ");
+        put_fault(&mut told, image, fault);
+        told.put("\n");
+    }
+    Ok(told)
+}
+
+/// Appends how many more bad lines a script has, if there are more.
+fn put_more_bad(told: &mut Text, file: &str, more: usize) {
+    if more > 0 {
+        told.put(file);
+        told.put_number(": note: and ", more as u64);
+        told.put(" more bad lines\n")
+    }
 }
 
 /// The bad lines of a script whose lines may write names, or may not.
@@ -109,4 +147,29 @@ pub fn tell_bad_lines(
         Ok(checked) => Ok(told_of(alloc, &checked, script, names)?),
         Err((_image, reject)) => Err(ScriptFault::from(reject)),
     }
+}
+
+/// The bad lines of the script FILE as diagnostics: `FILE:LINE:COLUMN: error: SENTENCE` for each of the first 20, and how many more there are.
+/// Empty if there are none. Columns count bytes from 1. The faults are those of `tell_bad_lines`.
+pub fn diagnose_bad_lines(
+    alloc: Global,
+    file: &str,
+    image: &[u8],
+    script: &[u8],
+    names: NameUse,
+) -> Result<Vec<u8>, ScriptFault> {
+    if script.len() > MOST_BYTES {
+        return Err(ScriptFault::TooLong);
+    }
+    let checked = match check(geos_image::read(alloc, image)?) {
+        Ok(checked) => checked,
+        Err((_image, reject)) => return Err(ScriptFault::from(reject)),
+    };
+    let bad = bad_ones(alloc, &checked, script, names)?;
+    let kept = Names::new(alloc, script, names);
+    let lines: &[Line] = &bad;
+    let few = lines.len().min(MOST_DIAGNOSED);
+    let mut told = diagnostics(alloc, file, checked.image(), &lines[..few], kept)?;
+    put_more_bad(&mut told, file, lines.len() - few);
+    Ok(told.finish()?)
 }
