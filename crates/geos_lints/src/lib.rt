@@ -4,11 +4,17 @@
 //! that no run takes.
 #![tactic(auto)]
 
+mod advice;
+mod calls;
 mod finding;
+mod items;
 mod liveness;
 mod reaching;
 mod telling;
 mod words;
 
+pub use advice::Advice;
+pub use calls::advice_on_call;
 pub use finding::{Lint, lints};
-pub use telling::{lint_sentence, warnings};
+pub use items::{Doubled, doubled_items};
+pub use telling::{advice_on, advice_on_doubled, warnings};
