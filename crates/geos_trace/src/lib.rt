@@ -13,7 +13,7 @@ mod page_run;
 mod steps;
 mod writes;
 
-pub use lines::{put_counts, put_end, put_refused};
+pub use lines::{origin_of, put_counts, put_end, put_instruction, put_refused};
 pub use notes::{MOST_STEPS, Notes};
 pub use page::{Told, html};
 pub use steps::{put_done, put_steps};

@@ -6,6 +6,7 @@ use geos_image::{Image, Instr};
 use geos_machine::{Left, Noted};
 use geos_opcodes::Operand;
 use geos_text::put_numbered;
+use line_marks::Origin;
 use std::alloc::AllocError;
 
 /// Appends what a step did: what it wrote, or that it was refused; and whether control went to the instruction's label.
@@ -26,13 +27,13 @@ pub fn put_done(out: &mut Vec<u8>, instr: &Instr, noted: &Noted) -> Result<(), A
 fn put_step(
     out: &mut Vec<u8>,
     image: &Image,
-    lines: Option<&[u32]>,
+    origins: Option<&[Origin<'_>]>,
     noted: &Noted,
 ) -> Result<(), AllocError> {
     if noted.pc >= image.len() {
         return Ok(());
     }
-    put_placed(out, image, lines, noted.pc)?;
+    put_placed(out, image, origins, noted.pc)?;
     let before = out.len();
     out.extend_from_slice(b"  ;")?;
     let empty = out.len();
@@ -47,11 +48,11 @@ fn put_step(
 pub fn put_steps(
     out: &mut Vec<u8>,
     image: &Image,
-    lines: Option<&[u32]>,
+    origins: Option<&[Origin<'_>]>,
     steps: &[Noted],
 ) -> Result<(), AllocError> {
     for noted in steps {
-        put_step(out, image, lines, noted)?;
+        put_step(out, image, origins, noted)?;
     }
     Ok(())
 }

@@ -5,7 +5,9 @@
 
 mod mark;
 mod marks;
+mod origins;
 mod told;
 
 pub use mark::is_mark;
 pub use marks::{LineMarks, Place};
+pub use origins::{Origin, origins_of};

@@ -120,16 +120,6 @@ impl LineMarks {
         }
         place
     }
-
-    /// For each line number of the text the one in its file. `AllocError` if the allocator refuses memory.
-    pub fn lines(&self, alloc: Global, lines: &[u32]) -> Result<Vec<u32>, AllocError> {
-        let mut found = Vec::new(alloc);
-        for line in lines {
-            let place = self.place(u64::from(*line));
-            found.push(u32::try_from(place.line).unwrap_or(u32::MAX))?;
-        }
-        Ok(found)
-    }
 }
 
 /// Writes the first byte of a line.
