@@ -6,11 +6,12 @@ ghost use Rattle.geos_image.specs.Reading.{image_at, Fails};
 ghost use Rattle.geos_texts.specs.Commands.{IsAssembledAs, TakesVersion2, IsImageOf, IsWhyNoneOf, IsListed};
 ghost use Rattle.geos_texts.specs.Commands.{IsJudged, IsJudgedText, IsFaultTold, begins_as_image};
 
+use crate::no_rows::why_no_rows;
 use effect_texts::put_effect_lines;
 use geos_asm::{
     AssembleError, Assembled, Unassembled, assemble_all_rows, assemble_or_tell, assemble_with_lines,
 };
-use geos_explain::{explain, explain_cause, explain_text};
+use geos_explain::{explain, explain_text};
 use geos_image::ReadError;
 use geos_lines::tell_faults;
 use geos_verify::{Checked, Reject, check, refused_places};
@@ -205,7 +206,7 @@ pub(crate) fn explain_text_bytes(
             fault: AssembleError::BadLine(line),
         })),
         Err(Unassembled::NoRows(line, cause, parsed)) => Ok(Err(Faulty {
-            told: explain_cause(alloc, &parsed.lines, &parsed.instrs, &cause)?,
+            told: why_no_rows(alloc, line, &cause, &parsed)?,
             fault: AssembleError::NoRows(line),
         })),
         Err(Unassembled::Memory) => Err(AllocError),

@@ -1,7 +1,7 @@
 //! Diagnostics on texts without an image.
 
+use crate::no_rows::why_no_rows;
 use geos_asm::{Unassembled, assemble_or_tell};
-use geos_explain::explain_cause;
 use geos_lines::diagnose_faults;
 use std::alloc::{AllocError, Global};
 
@@ -19,7 +19,7 @@ pub(crate) fn of_text(alloc: Global, file: &str, text: &[u8]) -> Result<Vec<u8>,
         Err(Unassembled::BadLine(_)) => diagnose_faults(alloc, file, text),
         Err(Unassembled::NoRows(line, cause, parsed)) => {
             let mut told = format!(in alloc; "{file}:{line}: error: no rows: ")?.into_bytes();
-            told.extend_from_slice(&explain_cause(alloc, &parsed.lines, &parsed.instrs, &cause)?)?;
+            told.extend_from_slice(&why_no_rows(alloc, line, &cause, &parsed)?)?;
             Ok(told)
         }
         Err(Unassembled::Memory) => Err(AllocError),

@@ -10,11 +10,14 @@ use crate::runnable::{Runnable, Unmarked, read_completed, read_unmarked};
 use crate::sources::is_source;
 use geos_asm::{AssembleError, Assembled, BudgetError, Budgeted, completed, find_budgets};
 use geos_input::{MOST_BYTES, ScriptFault};
+use geos_lints::Advice;
 use geos_scripts::{BadLines, NameUse, tell_bad_lines};
-use geos_shell::{NewText, Reports, STANDARD, StreamFault, print, print_lines, read, tell, write};
+use geos_shell::{
+    Named, NewText, Reports, STANDARD, StreamFault, print, print_lines, read, tell, write,
+};
 use geos_verify::{Reject, check as check_image};
 use line_marks::LineMarks;
-use std::alloc::Global;
+use std::alloc::{AllocError, Global};
 use text_format::formatted;
 
 /// The most bytes that are read of a file: one more than a text may have, and more than any image has.
@@ -58,7 +61,7 @@ pub fn assemble<'a>(
                 path: text,
                 image: made.image,
                 lines: made.lines,
-                text: made.text,
+                text: bytes,
                 marks,
             };
             warn(rt, reports, &made);
@@ -74,6 +77,22 @@ fn warn(rt: &HostRuntime, reports: Reports, image: &Runnable<'_>) {
     if reports.warnings && !reports.json {
         tell(rt, &image.warnings(rt.alloc()));
     }
+}
+
+/// Reports a warning about the file with the path.
+pub fn tell_warning(rt: &HostRuntime, path: &str, advice: &Advice) {
+    if let Ok(line) = warning_line(rt.alloc(), path, advice) {
+        tell(rt, &line);
+    }
+}
+
+/// The line of a warning about the file with the path.
+fn warning_line(alloc: Global, path: &str, advice: &Advice) -> Result<Vec<u8>, AllocError> {
+    let path = Named(path);
+    let mut line = format!(in alloc; "{path}: warning: ")?.into_bytes();
+    line.extend_from_slice(&advice.sentence(alloc)?)?;
+    line.push(b'\n')?;
+    Ok(line)
 }
 
 /// The fault of a text that is not assembled.

@@ -7,10 +7,10 @@ use crate::sources::{compiled, is_source};
 use geos_asm::completed;
 use geos_explain::diagnose;
 use geos_image::ReadError;
-use geos_lints::warnings;
+use geos_lints::{Advice, advice_on_call, warnings};
 use geos_shell::{Named, StreamFault, read};
 use geos_verify::{check, refused_places};
-use line_marks::LineMarks;
+use line_marks::{LineMarks, Origin, origins_of};
 use std::alloc::Global;
 
 /// An image, or a text in which line marks are comments.
@@ -100,15 +100,20 @@ impl<'a> Runnable<'a> {
         self.lines.as_ref().map(|lines| lines.as_slice())
     }
 
-    /// The line of each instruction in the file that line marks name; none if the text has no marks, or there is no text.
+    /// What the text has for each instruction, with the lines that its line marks name if `by_marks`; none of an image without a text.
     /// `StreamFault::Memory` if the allocator refuses memory.
-    pub fn marked_lines(&self, alloc: Global) -> Result<Option<Vec<u32>>, TextFault<'a>> {
-        match self.lines() {
-            Some(lines) if !self.marks.is_empty() => match self.marks.lines(alloc, lines) {
-                Ok(lines) => Ok(Some(lines)),
-                Err(_) => Err(TextFault::Stream(StreamFault::Memory)),
-            },
-            _ => Ok(None),
+    pub fn origins(
+        &self,
+        alloc: Global,
+        by_marks: bool,
+    ) -> Result<Option<Vec<Origin<'_>>>, TextFault<'a>> {
+        let Some(lines) = self.lines() else {
+            return Ok(None);
+        };
+        let marks = if by_marks { Some(&self.marks) } else { None };
+        match origins_of(alloc, marks, &self.text, lines) {
+            Ok(found) => Ok(Some(found)),
+            Err(_) => Err(TextFault::Stream(StreamFault::Memory)),
         }
     }
 
@@ -145,10 +150,23 @@ impl<'a> Runnable<'a> {
         let file = format!(in alloc; "{path}")?;
         match check(geos_image::read(alloc, &self.image)?) {
             Ok(checked) => {
-                let told = warnings(alloc, &file, lines, checked.image())?;
+                let told = warnings(alloc, &file, &self.text, lines, checked.image())?;
                 Ok(by_marks(alloc, &self.marks, &file, told))
             }
             Err(_) => Ok(Vec::new(alloc)),
+        }
+    }
+    /// What a warning says of a call with so many numbers of the routine with the name; none if there is nothing to warn of, or if the verifier
+    /// refuses the image. `ReadError::BadImage` if the bytes encode no image.
+    pub fn advice_on_call(
+        &self,
+        alloc: Global,
+        name: &str,
+        numbers: usize,
+    ) -> Result<Option<Advice>, ReadError> {
+        match check(geos_image::read(alloc, &self.image)?) {
+            Ok(checked) => Ok(advice_on_call(alloc, checked.image(), name, numbers)?),
+            Err(_) => Ok(None),
         }
     }
 }

@@ -52,6 +52,10 @@ pub struct Finding<'f, 'i, 'm> {
     pub column: Option<u64>,
     /// The instruction.
     pub at: Option<At<'i>>,
+    /// The number in the text of another line that is the cause. Otherwise the message may name it.
+    pub cause: Option<u64>,
+    /// What helps, empty if nothing does. Otherwise the message may say it.
+    pub cure: Option<&'m [u8]>,
     /// The sentence.
     pub message: &'m [u8],
 }
@@ -101,6 +105,41 @@ fn place_of<'f>(finding: &Finding<'f, '_, '_>) -> Place<'f> {
     }
 }
 
+/// The line of the cause, if it is in the file `here`.
+fn cause_in(finding: &Finding<'_, '_, '_>, here: Option<&str>, message: &str) -> Option<u64> {
+    match (finding.cause, finding.marks) {
+        (Some(line), Some(marks)) => {
+            let place = marks.place(line);
+            if place.file == here {
+                Some(place.line)
+            } else {
+                None
+            }
+        }
+        (Some(line), None) => Some(line),
+        (None, _) => cause_line(message),
+    }
+}
+
+/// Writes what helps, if that is known.
+fn put_cure(
+    alloc: Global,
+    out: &mut JsonLines,
+    known: Option<&[u8]>,
+    message: &str,
+) -> Result<(), AllocError> {
+    let told = match known {
+        Some(known) => String::from_utf8_lossy(alloc, known)?,
+        None => cure(alloc, message)?,
+    };
+    if told.is_empty() {
+        out.null("cure")
+    } else {
+        out.text("cure", told.as_bytes())
+    }
+    Ok(())
+}
+
 /// The sentence of a finding in the file `here`, in which line marks name other lines.
 fn said_by_marks(
     alloc: Global,
@@ -122,19 +161,14 @@ pub fn put_finding(
     let place = place_of(finding);
     let said = said_by_marks(alloc, finding, place.file)?;
     let message = String::from_utf8_lossy(alloc, said.trim_ascii())?;
-    let cure = cure(alloc, &message)?;
     out.begin(finding.severity.word());
     out.text("file", place.file.unwrap_or(finding.file).as_bytes());
     out.number_or_null("line", finding.line.map(|_| place.line));
     out.number_or_null("column", finding.column.or(column(&message)));
     put_at(out, finding.at);
     out.text("message", message.as_bytes());
-    out.number_or_null("cause_line", cause_line(&message));
-    if cure.is_empty() {
-        out.null("cure");
-    } else {
-        out.text("cure", cure.as_bytes());
-    }
+    out.number_or_null("cause_line", cause_in(finding, place.file, &message));
+    put_cure(alloc, out, finding.cure, &message)?;
     out.end();
     Ok(())
 }

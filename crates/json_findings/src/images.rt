@@ -6,7 +6,7 @@ use geos_explain::{Refusal, RefusalList, Register, find_refusals};
 use geos_grants::{Effects, effects_of};
 use geos_image::{Image, ReadError};
 use geos_json::JsonLines;
-use geos_lints::{Lint, lint_sentence, lints};
+use geos_lints::{Doubled, Lint, advice_on, advice_on_doubled, doubled_items, lints};
 use geos_verify::{Checked, Reject, check, refused_places};
 use line_marks::LineMarks;
 use std::alloc::{AllocError, Global};
@@ -68,6 +68,8 @@ impl<'i> Judged<'i, '_, '_> {
                     rule: Some(refusal.rule),
                     register: refusal.register,
                 }),
+                cause: None,
+                cure: None,
                 message: &refusal.sentence,
             },
         )
@@ -83,7 +85,7 @@ impl<'i> Judged<'i, '_, '_> {
         let Some(point) = self.image.points().get(pc) else {
             return Ok(());
         };
-        let message = lint_sentence(alloc, lint, &point.instr)?;
+        let advice = advice_on(alloc, lint, &point.instr)?;
         let Ok(pc) = u16::try_from(pc) else {
             return Ok(());
         };
@@ -106,12 +108,42 @@ impl<'i> Judged<'i, '_, '_> {
                     rule: None,
                     register,
                 }),
-                message: message.as_bytes(),
+                cause: None,
+                cure: Some(&advice.cure),
+                message: &advice.sentence(alloc)?,
+            },
+        )
+    }
+
+    /// A warning about a line of the text, and no instruction.
+    fn put_doubled(
+        &self,
+        alloc: Global,
+        out: &mut JsonLines,
+        doubled: &Doubled,
+    ) -> Result<(), AllocError> {
+        let advice = advice_on_doubled(alloc, doubled)?;
+        put_finding(
+            alloc,
+            out,
+            &Finding {
+                marks: self.source.marks,
+                severity: Severity::Warning,
+                file: self.source.file,
+                line: Some(u64::from(doubled.line)),
+                column: Some(u64::from(doubled.column)),
+                at: None,
+                cause: None,
+                cure: Some(&advice.cure),
+                message: &advice.sentence(alloc)?,
             },
         )
     }
 
     fn put_warnings(&self, alloc: Global, out: &mut JsonLines) -> Result<(), AllocError> {
+        for doubled in &doubled_items(alloc, self.source.text)? {
+            self.put_doubled(alloc, out, doubled)?;
+        }
         for (pc, lint) in &lints(alloc, self.image)? {
             self.put_warning(alloc, out, *pc, *lint)?;
         }
@@ -142,6 +174,8 @@ impl<'i> Judged<'i, '_, '_> {
 pub struct Source<'f, 'l> {
     /// The path of the image, or of its text.
     pub file: &'f str,
+    /// The text, in which line marks are comments; empty without one.
+    pub text: &'f [u8],
     /// The line of each instruction in the text; empty without one.
     pub lines: &'l [u32],
     /// The line marks of the text, if it has some.

@@ -22,24 +22,36 @@ const ORDERS: [&str; 16] = [
     "or, ",
 ];
 
+/// A number, and the text after it.
+#[derive(Clone, Copy)]
+struct Numbered<'m> {
+    number: u64,
+    rest: &'m str,
+}
+
 /// The number after the words, if the sentence has them.
-fn number_after(message: &str, words: &str) -> Option<u64> {
+fn number_after<'m>(message: &'m str, words: &str) -> Option<Numbered<'m>> {
     let (_, rest) = message.split_once(words)?;
     let end = rest
         .bytes()
         .position(|byte| !byte.is_ascii_digit())
         .unwrap_or(rest.len());
-    rest.get(..end)?.parse().ok()
+    let number = rest.get(..end)?.parse().ok()?;
+    let rest = rest.get(end..)?;
+    Some(Numbered { number, rest })
 }
 
 /// The column that the sentence names.
 pub(crate) fn column(message: &str) -> Option<u64> {
-    number_after(message, " at column ")
+    number_after(message, " at column ").map(|found| found.number)
 }
 
-/// The first other line that the sentence names.
+/// The first other line that the sentence names, if it is one of the same file: by line marks a line of another file is `line 3 of FILE`.
 pub(crate) fn cause_line(message: &str) -> Option<u64> {
-    number_after(message, " line ")
+    match number_after(message, " line ") {
+        Some(found) if !found.rest.starts_with(" of ") => Some(found.number),
+        _ => None,
+    }
 }
 
 /// Whether a part after a colon says only what is: it begins with a register, a line, or what there is none of.
