@@ -1,10 +1,10 @@
 -- Which numbers a request may have.
-use Rattle.std.specs.Prelude.{◌≡◌, ℕ, ◌≤◌, ◌%◌}
+use Rattle.std.specs.Prelude.{◌≡◌, ℕ, ◌≤◌, ◌%◌, IfSome}
 use Rattle.geos_shell.specs.declared.numbers.Number.{Number}
 use Rattle.geos_shell.specs.declared.request.FileRequest.{FileRequest}
-use Rattle.geos_shell.specs.declared.request.FileRequest.TheVariants.{New, Put, Get, Dump, Map}
+use Rattle.geos_shell.specs.declared.request.FileRequest.TheVariants.{New, Copy, Put, Get, Dump, Diff, Map}
 use Rattle.geos_shell.specs.declared.request.Request.{Request}
-use Rattle.geos_shell.specs.declared.request.Request.TheVariants.{Routines, Text, File}
+use Rattle.geos_shell.specs.declared.request.Request.TheVariants.{Routines, Test, Text, File}
 use Rattle.geos_shell.specs.declared.request.RoutineRequest.{RoutineRequest}
 use Rattle.geos_shell.specs.declared.request.RoutineRequest.TheVariants.{Session, Call, Trace, Run}
 
@@ -34,13 +34,16 @@ RunsWithinLimits (Run image file script region strict names form commit) = IsReg
 -- each number of what works on a VM file is
 abbrev pub WorksWithinLimits : FileRequest → Type 0
 WorksWithinLimits (New file area) = IsArea area
+WorksWithinLimits (Copy copy) = IfSome copy.area IsArea
 WorksWithinLimits (Put chunk at region) = IsRegion region
 WorksWithinLimits (Get chunk region) = IsRegion region
 WorksWithinLimits (Dump file chunks) = Unit {0}
+WorksWithinLimits (Diff files) = Unit {0}
 WorksWithinLimits (Map file width) = IsWidth width
 
 -- each number of a request is
 abbrev pub KeepsLimits : Request → Type 0
 KeepsLimits (Routines request) = RunsWithinLimits request
+KeepsLimits (Test request) = IsRegion request.region
 KeepsLimits (Text request) = Unit {0}
 KeepsLimits (File request) = WorksWithinLimits request

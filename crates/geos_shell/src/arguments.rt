@@ -5,6 +5,7 @@
 //!   NAME            a word that the command requires
 //!   ?NAME           a word that it may be given
 //!   *NAME           words that it may be given, any number of them
+//!   +NAME           words that it requires, one or more of them
 //!   --name          a flag
 //!   --name=WORD     a word after a name
 //!   --name=N:10     a number after a name, and its default
@@ -50,6 +51,12 @@ NAME The public routine that runs
 --html=OUT The file that a page of the run goes to, in place of the steps; `-` is the standard output
 --json Prints only JSON objects, one a line, as docs/JSON.md lists them
 
+test Runs scripts whose lines say what they are to print
+IN A file of assembly text, at most 1,048,576 bytes, or of an image's bytes; `-` is the standard input
++SCRIPT A file of commands, at most 1,048,576 bytes; `-` is the standard input
+--file=FILE The VM file of which each script gets a copy in memory; without it, a new one
+--region=N:1048576 How many bytes of memory the blocks have, 65536 to 16777216
+
 asm Makes the image of a text
 IN A file of assembly text, at most 1,048,576 bytes; `-` is the standard input
 OUT The file that the image goes to; `-` is the standard output
@@ -82,6 +89,12 @@ IMAGE A file of an image's bytes, or of assembly text; `-` is the standard input
 new Makes a VM file without blocks
 FILE The VM file that is made; no file has that name yet
 --area=N:1048576 How many bytes each of its two areas has, a multiple of 512, 512 to 16777216
+
+copy Copies a VM file to a new one, whose areas may be larger or smaller
+FILE A VM file, as `new` makes it
+NEW The VM file that is made; no file has that name yet
+--area=N How many bytes each area of NEW has, a multiple of 512, 512 to 16777216; without it, as many as those of FILE
+--saved Makes the blocks that FILE saved last the current ones of NEW too
 
 run Runs a script on a VM file
 IMAGE A file of an image's bytes, or of assembly text; `-` is the standard input
@@ -118,6 +131,11 @@ dump Prints the blocks of a VM file, and their chunks
 FILE A VM file, as `new` makes it
 --chunks Prints the bytes of each chunk too, as `xxd` does
 --json Prints only JSON objects, one a line, as docs/JSON.md lists them
+
+diff Prints what differs between two VM files
+A A VM file, as `new` makes it
+B Another VM file
+--saved Compares only what the files saved last
 
 map Draws a VM file: how full its areas and blocks are
 FILE A VM file, as `new` makes it

@@ -21,6 +21,8 @@ fn word_of<'a>(alloc: Global, word: &'a str) -> Arg<'a> {
         Arg::new(alloc, name)
             .num_args(0..)
             .allow_negative_numbers(true)
+    } else if let Some(name) = word.strip_prefix("+") {
+        Arg::new(alloc, name).num_args(1..).required(true)
     } else {
         Arg::new(alloc, word).required(true)
     }

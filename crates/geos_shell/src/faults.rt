@@ -3,7 +3,7 @@
 use crate::file_id::regular_at;
 use crate::kept::begins_as_saved;
 use crate::output::{faults_go_into, written_name};
-use crate::request::{ChunkPath, FileRequest, Request, RoutineRequest, TextRequest};
+use crate::request::{ChunkPath, FileRequest, Request, RoutineRequest, TestRequest, TextRequest};
 use crate::streams::{STANDARD, name_of};
 
 /// Whether standard error goes into the file with the path.
@@ -86,6 +86,17 @@ impl RoutineRequest<'_> {
     }
 }
 
+impl TestRequest<'_> {
+    fn has_faults(&self, rt: &HostRuntime) -> bool {
+        for script in &self.scripts {
+            if are_in_read(rt, script) {
+                return true;
+            }
+        }
+        are_in_any(rt, self.file) || are_in_read(rt, self.image)
+    }
+}
+
 impl TextRequest<'_> {
     fn has_faults(&self, rt: &HostRuntime) -> bool {
         match self {
@@ -116,6 +127,8 @@ impl FileRequest<'_> {
                 chunk: ChunkPath { file, .. },
                 ..
             } => are_in(rt, file),
+            FileRequest::Copy(copy) => are_in(rt, copy.file) || are_in(rt, copy.new),
+            FileRequest::Diff(files) => are_in(rt, files.one) || are_in(rt, files.other),
             FileRequest::New { file, .. }
             | FileRequest::Dump { file, .. }
             | FileRequest::Map { file, .. } => are_in(rt, file),
@@ -129,6 +142,7 @@ impl Request<'_> {
     pub fn has_faults(&self, rt: &HostRuntime) -> bool {
         match self {
             Request::Routines(request) => request.has_faults(rt),
+            Request::Test(request) => request.has_faults(rt),
             Request::Text(request) => request.has_faults(rt),
             Request::File(request) => request.has_faults(rt),
         }

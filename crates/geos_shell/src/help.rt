@@ -6,6 +6,7 @@ pub(crate) const ABOUT: &str = "Checks routines, which are written as text, and 
 pub(crate) const USAGES: &str = "\
 geos call IN [NAME [N..]] [--file FILE [--update | --save]] [--grant EFFECTS] [--most-steps N] [--region N] [--strict] [FORM | --json]
        geos trace IN NAME [N..] [--steps N] [--only ROUTINE | --count | --html OUT] [--file FILE] [--grant EFFECTS] [--most-steps N] [--region N] [--json]
+       geos test IN SCRIPT.. [--file FILE] [--region N]
        geos asm IN OUT [--all-rows] [--json]
        geos budget TEXT [OUT | --in-place]
        geos fmt TEXT [OUT | --in-place]
@@ -13,10 +14,12 @@ geos call IN [NAME [N..]] [--file FILE [--update | --save]] [--grant EFFECTS] [-
        geos check IMAGE [--json]
        geos explain IMAGE [--script SCRIPT [--vars] | --json]
        geos new FILE [--area N]
+       geos copy FILE NEW [--area N] [--saved]
        geos run IMAGE FILE SCRIPT [--grant EFFECTS] [--most-steps N] [--region N] [--strict] [--vars] [--update | --save] [FORM]
        geos put FILE H C [AT] [--item] [--region N]
        geos get FILE H C [--item] [--region N]
        geos dump FILE [--chunks] [--json]
+       geos diff A B [--saved]
        geos map FILE [--width N]
        geos < SESSION
        geos help [COMMAND | TOPIC]";
@@ -115,7 +118,8 @@ text, or the pc if IN is an image; the instruction; and after `;` what the step 
   out 5                a word that is output
   jumps                control goes to the label: of a test, or of LOOP
   refused 2            nothing is done except w7=2, and control goes to the label
-L and a number is the label of the instruction with that pc, counted from 0.
+Labels are those of the text; of an image or a source, L and a pc, counted from 0. If line marks name the
+lines, a line is `3 of FILE`.
 
 The last line says how many steps the whole run took, and what is left of the budget. At most 10,000 steps
 are printed, or --steps many; with --only, those of ROUTINE only. The run goes to its end all the same.
@@ -127,6 +131,20 @@ Example:
   geos trace add.asm add 2 3        if add.asm has the text of `geos help`
   geos trace examples/lend.asm --file lent.vm peek @1
   geos trace examples/heap.asm main --html heap.html
+====
+Each SCRIPT runs as by `geos call IN`, and a line may end with `=>` and what it is to print:
+  call add 2 3 => 5
+  call peek @9 => refused 1
+  call begin =>        nothing
+The words after `=>` are compared with those that are printed, in decimal, with one space between them. A line
+without `=>` runs, and may print anything. Each SCRIPT begins with a new VM file in memory, or with --file
+with a copy of FILE, which stays as it is. Each line that prints something else is reported as
+`SCRIPT:3: expected 5, printed 6`, a bad line with what is wrong. If a line is bad, its script does not run,
+or ends there, and the lines with `=>` that did not run have failed. At the end come the numbers of lines
+with `=>`, as `7 passed, 1 failed`. The status is 1 if a line failed or is bad.
+
+Example:
+  geos test add.asm add.script      if add.asm has the text of `geos help`
 ====
 If the file OUT exists, it is replaced; after a fault it is as it was. The image has version 2: rows only
 where a routine begins, at labels that are used, and after JMP and RET. A row says what is known at an
@@ -199,9 +217,21 @@ are printed, and how many more there are. Nothing else is printed, and nothing r
 ====
 The file is twice the size of an area, and 1,024 bytes more; if the disk can, it gives no room to what is not
 written. An area has room for all blocks of the file twice: as they are, and as they were saved last. If
-they are longer than an area, `update` and `save` are refused 6 and change nothing.
+they are longer than an area, `update` and `save` are refused 6 and change nothing; `geos copy` makes a file
+with larger areas.
 `cannot write FILE` says that something of that name exists, which stays as it is, or that the file cannot
 be made.
+====
+NEW has the blocks of FILE as they are, and as they were saved last; with --saved, its current blocks are
+those that were saved last too. Handles, user IDs, map block and map item stay the same. If `update` or
+`save` of FILE is refused 6, a copy with larger areas has room. `area too small` names the least area that
+has room.
+FILE is only read, and other commands that change it wait meanwhile. NEW is read again and compared with
+FILE before it gets its name. `cannot write NEW` says that something of that name exists, which stays as it
+is, or that NEW cannot be made.
+
+Example:
+  geos copy notes.vm larger.vm --area 4194304
 ====
 IMAGE is an image if it begins as one does, and otherwise a text, which is assembled in memory; so a VM file
 there is `line 1: why 1`.
@@ -256,6 +286,16 @@ What the file has now, `current`, and then what it saved last, `saved`:
   H uid U size S chunks C:N ..   a block: its handle, user ID and bytes, and handle and length of each chunk
 A group has the user ID 65280. A file that may only be read is read; nothing is written.
 `bad file at N` names the first byte, from the start of the file, that is not as it must be.
+====
+The lines are those of `geos dump --chunks`: those that only A has after `-`, those that only B has after
+`+`. Before them, after a blank, come the lines of the directory, the block and the chunk that they are in,
+if both files have these lines. If nothing differs, nothing is printed; otherwise the status is 1, and
+`A and B differ` is on standard error.
+
+Example:
+  geos copy notes.vm before.vm
+  geos run notes.asm notes.vm notes.script
+  geos diff before.vm notes.vm
 ====
 The first bar is the area that is read, with all blocks as they are and as they were saved last. Below it,
 each block has a bar whose length is to the longest bar as the block is to the longest block: `#` is in

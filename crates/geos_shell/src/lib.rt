@@ -8,7 +8,9 @@ mod answer;
 mod arguments;
 mod colours;
 mod command_line;
+mod copying;
 mod descriptors;
+mod diffing;
 mod faults;
 mod file_id;
 mod forms;
@@ -31,7 +33,9 @@ mod streams;
 
 pub use answer::Answer;
 pub use command_line::words;
+pub use copying::CopyRequest;
 pub use descriptors::keep_stream_numbers;
+pub use diffing::DiffRequest;
 pub use forms::{Digits, EndCommit, OutputForm};
 pub use locks::{FileLock, Lockable, Sharing};
 pub use new_file::NewFile;
@@ -41,7 +45,7 @@ pub use reason::Reason;
 pub use reported::{Diagnosed, Reported, done_or_reported, report};
 pub use request::{
     Asked, CallWords, ChunkPath, FileRequest, NewText, Reports, Request, RoutineRequest,
-    TextRequest, TraceWords, requested,
+    TestRequest, TextRequest, TraceWords, requested,
 };
 pub use run_limits::RunLimits;
 pub use streams::{STANDARD, StreamFault, print, print_lines, read, tell, tell_typist, write};

@@ -41,6 +41,10 @@ pub(crate) const TWO_OF_ONE_STREAM: Misuse = Misuse::Wrong(
     "only one of IMAGE and SCRIPT is the standard input",
 );
 
+pub(crate) const TWO_TESTED_STREAMS: Misuse = Misuse::Wrong(
+    "only one of IN and SCRIPT.. is the standard input",
+);
+
 pub(crate) const NO_NAME: Misuse = Misuse::Wrong(
     "IN is the standard input, so NAME has to be given",
 );

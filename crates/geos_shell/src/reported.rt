@@ -5,7 +5,7 @@ use crate::streams::tell;
 use std::alloc::Global;
 use std::fmt::Display;
 
-/// A request was not carried out, and standard error says why.
+/// A request was not carried out, and standard error says why; or lines of test scripts failed, as standard output says.
 #[derive(Clone, Copy)]
 pub struct Reported;
 

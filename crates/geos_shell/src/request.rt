@@ -1,16 +1,18 @@
 //! The request that the words on the command line make.
 
 ghost use Rattle.std.specs.Prelude.{IfOk};
-ghost use Rattle.geos_shell.specs.Limits.{KeepsLimits, RunsWithinLimits, WorksWithinLimits};
+ghost use Rattle.geos_shell.specs.Limits.{IsRegion, KeepsLimits, RunsWithinLimits, WorksWithinLimits};
 
 use crate::answer::{Answer, answer_to};
 use crate::command_line::{matches_of, parts_of};
+use crate::copying::{CopyRequest, copy_of};
+use crate::diffing::{DiffRequest, diff_of};
 use crate::forms::{EndCommit, OutputForm};
 use crate::given::Given;
 use crate::misuse::{
     JSON_OR_DIAGNOSTICS, JSON_OR_FORM, JSON_OR_OUTPUT, JSON_OR_PAGE, JSON_OR_SCRIPT, Misuse,
     NAMES_OF_NO_SCRIPT, NO_CHUNK, NO_FILE, NO_HANDLE, NO_NAME, NO_OFFSET, NOT_IN_PLACE, ONTO_IN,
-    ONTO_TEXT, PAGE_OF_PART, TWO_OF_ONE_STREAM,
+    ONTO_TEXT, PAGE_OF_PART, TWO_OF_ONE_STREAM, TWO_TESTED_STREAMS,
 };
 use crate::numbers::{AREA, REGION, STEPS, WIDTH};
 use crate::run_limits::RunLimits;
@@ -90,6 +92,16 @@ pub enum RoutineRequest<'a> {
     },
 }
 
+/// To run scripts whose lines say what they are to print, with a text or an image; each on a copy of a VM file in memory, or with none on a
+/// new one, with so many bytes for blocks in memory.
+#[derive(Drop)]
+pub struct TestRequest<'a> {
+    pub image: &'a str,
+    pub scripts: Vec<&'a str>,
+    pub file: Option<&'a str>,
+    pub region: u32,
+}
+
 /// To make something of a text or an image, or to say something of it. Nothing runs.
 #[derive(Drop)]
 pub enum TextRequest<'a> {
@@ -128,7 +140,7 @@ pub struct NewText<'a> {
     pub in_place: bool,
 }
 
-/// To make a VM file, to write into it, or to show it.
+/// To make or copy a VM file, to write into it, or to show it.
 #[derive(Drop)]
 pub enum FileRequest<'a> {
     /// To make a VM file with areas of so many bytes, a legal area size.
@@ -136,6 +148,8 @@ pub enum FileRequest<'a> {
         file: &'a str,
         area: u32,
     },
+    /// To copy a VM file.
+    Copy(CopyRequest<'a>),
     /// To write the standard input into a chunk of a VM file, and to update that, with so many bytes for blocks in memory.
     Put {
         chunk: ChunkPath<'a>,
@@ -152,6 +166,8 @@ pub enum FileRequest<'a> {
         file: &'a str,
         chunks: bool,
     },
+    /// To print what differs between two VM files.
+    Diff(DiffRequest<'a>),
     /// To draw a VM file in so many columns.
     Map {
         file: &'a str,
@@ -165,6 +181,8 @@ pub enum FileRequest<'a> {
 pub enum Request<'a> {
     /// To run routines.
     Routines(RoutineRequest<'a>),
+    /// To run test scripts.
+    Test(TestRequest<'a>),
     /// To work on a text or an image.
     Text(TextRequest<'a>),
     /// To work on a VM file.
@@ -264,6 +282,27 @@ fn trace_of<'a>(alloc: Global, given: &mut Given<'_, 'a>) -> RoutineRequest<'a>
             count,
             page,
         },
+        file: given.setting("file"),
+        region,
+    }
+}
+
+/// The request of a `test`. A wrong number is reported first.
+fn test_of<'a>(alloc: Global, given: &mut Given<'_, 'a>) -> TestRequest<'a>
+    ensures { IsRegion result.region }
+{
+    let region = given.number(&REGION);
+    let image = given.word("IN");
+    let scripts = given.words(alloc, "SCRIPT");
+    let mut is_read = is_stream(image);
+    for script in &scripts {
+        let is_of_stream = is_stream(script);
+        given.refuse_if(is_read && is_of_stream, TWO_TESTED_STREAMS);
+        is_read = is_read || is_of_stream;
+    }
+    TestRequest {
+        image,
+        scripts,
         file: given.setting("file"),
         region,
     }
@@ -413,15 +452,18 @@ fn command_request<'a>(alloc: Global, name: &str, given: &mut Given<'_, 'a>) -> 
         "call" => Request::Routines(call_of(alloc, given)),
         "trace" => Request::Routines(trace_of(alloc, given)),
         "run" => Request::Routines(run_of(given)),
+        "test" => Request::Test(test_of(alloc, given)),
         "asm" => Request::Text(asm_of(given)),
         "budget" => Request::Text(TextRequest::Budget(new_text_of(given))),
         "fmt" => Request::Text(TextRequest::Format(new_text_of(given))),
         "list" => Request::Text(TextRequest::List(given.word("IMAGE"))),
         "explain" => Request::Text(explain_of(given)),
         "new" => Request::File(new_of(given)),
+        "copy" => Request::File(copy_of(given)),
         "put" => Request::File(put_of(given)),
         "get" => Request::File(get_of(given)),
         "dump" => Request::File(dump_of(given)),
+        "diff" => Request::File(diff_of(given)),
         "map" => Request::File(map_of(given)),
         _ => Request::Text(TextRequest::Check(given.word("IMAGE"))),
     }
