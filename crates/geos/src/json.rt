@@ -1,6 +1,7 @@
 //! Findings and faults as JSON objects on the standard output.
 
 use geos_json::JsonLines;
+use geos_lints::Advice;
 use geos_shell::{Diagnosed, Reported, Reports, StreamFault, done_or_reported, print};
 use geos_texts::{FaultySource, Runnable, TextFault, assemble, assemble_all};
 use geos_verify::Reject;
@@ -71,9 +72,34 @@ fn put_source(
             line: Some(fault.line as u64),
             column: Some(fault.column as u64),
             at: None,
+            cause: None,
+            cure: None,
             message: &fault.sentence,
         },
     )
+}
+
+/// Prints a warning about the file with the path.
+pub(crate) fn print_warning(rt: &HostRuntime, path: &str, advice: &Advice) {
+    let Ok(message) = advice.sentence(rt.alloc()) else {
+        return;
+    };
+    let mut out = JsonLines::new(rt.alloc());
+    let finding = Finding {
+        marks: None,
+        severity: Severity::Warning,
+        file: path,
+        line: None,
+        column: None,
+        at: None,
+        cause: None,
+        cure: Some(&advice.cure),
+        message: &message,
+    };
+    if put_finding(rt.alloc(), &mut out, &finding).is_ok() {
+        // If the standard output fails, what follows reports it.
+        let _ = print_objects(rt, out);
+    }
 }
 
 /// The line marks of a text, if it has some.
@@ -109,6 +135,7 @@ struct Judged<'a> {
 fn source_of<'t>(image: &'t Runnable<'_>, reports: Reports, effects: bool) -> Source<'t, 't> {
     Source {
         file: image.path,
+        text: &image.text,
         lines: image.lines().unwrap_or(&[]),
         marks: marks_of(&image.marks),
         warns: reports.warnings,

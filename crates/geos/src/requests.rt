@@ -1,23 +1,26 @@
 //! Carries out the requests of the command line.
 
-ghost use Rattle.geos_shell.specs.Limits.{KeepsLimits, RunsWithinLimits, WorksWithinLimits};
+ghost use Rattle.geos_shell.specs.Limits.{IsRegion, KeepsLimits, RunsWithinLimits, WorksWithinLimits};
 
-use crate::json::{assemble_and_tell, check_and_tell, done, read_and_tell};
+use crate::json::{assemble_and_tell, check_and_tell, done, print_warning, read_and_tell};
 use geos_cli::Mode;
 use geos_dump::Detail;
-use geos_files::{check_file, draw_file, is_vm_file, make_file, print_file};
+use geos_files::{
+    check_file, compare_files, copy_file, draw_file, is_vm_file, make_file, print_file,
+};
 use geos_runs::{
-    Manner, RunFault, Shown, Traceable, call as run_call, get, put, run, session, trace,
+    Manner, RunFault, Shown, Traceable, call as run_call, get, put, run, session, test, trace,
 };
 use geos_scripts::NameUse;
 use geos_shell::{
-    EndCommit, FileRequest, OutputForm, Reported, Reports, Request, RoutineRequest, RunLimits,
-    TextRequest, tell,
+    CallWords, EndCommit, FileRequest, OutputForm, Reported, Reports, Request, RoutineRequest,
+    RunLimits, TestRequest, TextRequest, tell,
 };
 use geos_texts::{
     KnownLines, Limited, Limits, Runnable, TextFault, assemble, assemble_all, budget, check,
-    explain, explain_script, format, known_lines, list, read_and_warn,
+    explain, explain_script, format, known_lines, list, read_and_warn, tell_warning,
 };
+use line_marks::Origin;
 
 /// What a script does after a refused command.
 fn mode_of(strict: bool) -> Mode {
@@ -44,12 +47,12 @@ fn detail_of(chunks: bool, json: bool) -> Detail {
 }
 
 /// The end of a run of routines. If the verifier refuses their image, its refusals are among the diagnostics.
-fn ran(
+fn ran<T: Drop>(
     rt: &HostRuntime,
     reports: Reports,
-    ran: Result<(), RunFault<'_>>,
+    ran: Result<T, RunFault<'_>>,
     routines: &Runnable<'_>,
-) -> Result<(), Reported> {
+) -> Result<T, Reported> {
     let ended = done(rt, reports, ran);
     if ended.is_err() && reports.diagnostics {
         tell(rt, &routines.told(rt.alloc()));
@@ -102,26 +105,44 @@ fn manner_of(
     }
 }
 
-/// What a page shows of routines, if a page is requested.
-fn known_of(
+/// What is known of the text of routines that are traced.
+#[derive(Drop)]
+struct Known<'t> {
+    /// What a page shows of them, if a page is required.
+    page: Option<KnownLines>,
+    /// What the text has for each instruction, if there is one.
+    origins: Option<Vec<Origin<'t>>>,
+}
+
+/// What is known of the text of routines, if they are traced. A page has the lines of the text itself, and not those that line marks name.
+fn known_of<'t>(
     rt: &HostRuntime,
     reports: Reports,
-    routines: &Runnable<'_>,
-    page: Option<&str>,
-) -> Result<Option<KnownLines>, Reported> {
-    match page {
-        Some(_) => Ok(Some(done(rt, reports, known_lines(rt, routines))?)),
-        None => Ok(None),
+    routines: &'t Runnable<'_>,
+    named: &Named<'_>,
+) -> Result<Known<'t>, Reported> {
+    if !named.traces {
+        return Ok(Known {
+            page: None,
+            origins: None,
+        });
     }
+    let by_marks = named.page.is_none();
+    let origins = done(rt, reports, routines.origins(rt.alloc(), by_marks))?;
+    let page = match named.page {
+        Some(_) => Some(done(rt, reports, known_lines(rt, routines))?),
+        None => None,
+    };
+    Ok(Known { page, origins })
 }
 
 /// What is traced of routines, and what a page shows of them, if their lines are known for one.
 fn traceable_of<'t>(
     reports: Reports,
     routines: &'t Runnable<'_>,
-    known: &'t Option<KnownLines>,
+    known: &'t Known<'_>,
 ) -> Traceable<'t> {
-    let shown = match known {
+    let shown = match &known.page {
         Some(known) => Some(Shown {
             path: routines.path,
             explained: &known.lines,
@@ -129,9 +150,13 @@ fn traceable_of<'t>(
         }),
         None => None,
     };
+    let origins = match &known.origins {
+        Some(origins) => Some(origins.as_slice()),
+        None => None,
+    };
     Traceable {
         image: &routines.image,
-        lines: routines.lines(),
+        origins,
         shown,
         json: reports.json,
     }
@@ -144,8 +169,20 @@ struct Named<'a> {
     image: &'a str,
     /// The routine that a call names.
     called: Option<&'a str>,
+    /// How many numbers it has.
+    numbers: usize,
+    /// Whether it is traced.
+    traces: bool,
     /// The path of a page, if one is required.
     page: Option<&'a str>,
+}
+
+/// How many numbers a call has. Words that begin with `@` are blocks.
+fn count_numbers(call: &CallWords<'_>) -> usize {
+    call.words
+        .iter()
+        .filter(|word| !word.starts_with('@'))
+        .count()
 }
 
 /// What a request names. A session names no image.
@@ -158,18 +195,42 @@ fn named_in<'a>(request: &RoutineRequest<'a>) -> Option<Named<'a>> {
                 Some(call) => Some(call.name),
                 None => None,
             },
+            numbers: match call {
+                Some(call) => count_numbers(call),
+                None => 0,
+            },
+            traces: false,
             page: None,
         }),
         RoutineRequest::Trace { image, words, .. } => Some(Named {
             image,
             called: Some(words.call.name),
+            numbers: count_numbers(&words.call),
+            traces: true,
             page: words.page,
         }),
         RoutineRequest::Run { image, .. } => Some(Named {
             image,
             called: None,
+            numbers: 0,
+            traces: false,
             page: None,
         }),
+    }
+}
+
+/// Reports the warning about a call, if there is one and warnings are required.
+fn warn_of(rt: &HostRuntime, reports: Reports, routines: &Runnable<'_>, named: &Named<'_>) {
+    let Some(name) = named.called else {
+        return;
+    };
+    if !reports.warnings {
+        return;
+    }
+    match routines.advice_on_call(rt.alloc(), name, named.numbers) {
+        Ok(Some(advice)) if reports.json => print_warning(rt, routines.path, &advice),
+        Ok(Some(advice)) => tell_warning(rt, routines.path, &advice),
+        _ => {}
     }
 }
 
@@ -187,18 +248,32 @@ fn run_routines<'a>(
         return done(rt, reports, session(rt));
     };
     let kept = limited(rt, reports, named.image, named.called, limits)?;
-    let known = known_of(rt, reports, &kept.routines, named.page)?;
-    let end = run_on(rt, reports, request, &kept.routines, &known);
-    ran(rt, reports, end, &kept.routines)
+    run_limited(rt, reports, request, &named, &kept.routines)
 }
 
-/// Runs routines that were read. If a page is required, their lines are known.
+/// Runs routines that keep to the limits.
+fn run_limited<'a>(
+    rt: &HostRuntime,
+    reports: Reports,
+    request: RoutineRequest<'a>,
+    named: &Named<'a>,
+    routines: &Runnable<'_>,
+) -> Result<(), Reported>
+    requires { RunsWithinLimits request }
+{
+    warn_of(rt, reports, &*routines, named);
+    let known = known_of(rt, reports, &*routines, named)?;
+    let end = run_on(rt, reports, request, &*routines, &known);
+    ran(rt, reports, end, routines)
+}
+
+/// Runs routines that were read.
 fn run_on<'a, 't>(
     rt: &HostRuntime,
     reports: Reports,
     request: RoutineRequest<'a>,
     routines: &'t Runnable<'_>,
-    known: &'t Option<KnownLines>,
+    known: &'t Known<'_>,
 ) -> Result<(), RunFault<'a>>
     requires { RunsWithinLimits request }
 {
@@ -239,6 +314,25 @@ fn run_on<'a, 't>(
             let manner = manner_of(reports, strict, use_of(names), form, commit);
             run(rt, &manner, image, file, script, region)
         }
+    }
+}
+
+/// Runs test scripts as the request asks. Lines that failed are printed, so standard error has nothing of them.
+fn run_tests(rt: &HostRuntime, reports: Reports, request: TestRequest<'_>) -> Result<(), Reported>
+    requires { IsRegion request.region }
+{
+    let TestRequest {
+        image,
+        scripts,
+        file,
+        region,
+    } = request;
+    let routines = runnable(rt, reports, image)?;
+    let tested = test(rt, &routines.image, &scripts, file, region);
+    if ran(rt, reports, tested, &routines)? {
+        Ok(())
+    } else {
+        Err(Reported)
     }
 }
 
@@ -292,6 +386,7 @@ fn work_on_file(
 {
     match request {
         FileRequest::New { file, area } => done(rt, reports, make_file(rt, file, area)),
+        FileRequest::Copy(copy) => done(rt, reports, copy_file(rt, &copy)),
         FileRequest::Put { chunk, at, region } => { done(rt, reports, put(rt, &chunk, at, region)) }
         FileRequest::Get { chunk, region } => done(rt, reports, get(rt, &chunk, region)),
         FileRequest::Dump { file, chunks } => {
@@ -301,6 +396,7 @@ fn work_on_file(
                 print_file(rt, file, detail_of(chunks, reports.json)),
             )
         }
+        FileRequest::Diff(files) => done(rt, reports, compare_files(rt, &files)),
         FileRequest::Map { file, width } => done(rt, reports, draw_file(rt, file, width)),
     }
 }
@@ -317,6 +413,7 @@ pub(crate) fn carry_out(
 {
     match request {
         Request::Routines(request) => run_routines(rt, reports, request, limits),
+        Request::Test(request) => run_tests(rt, reports, request),
         Request::Text(TextRequest::Check(path)) if is_vm_file(rt, path) => {
             done(rt, reports, check_file(rt, path, reports.json))
         }

@@ -4,6 +4,7 @@ ghost use Rattle.vm_blocks.specs.Listed.{NoneLocked};
 ghost use Rattle.geos_shell.specs.Limits.{IsRegion};
 
 use crate::MOST_READ;
+use crate::bad_lines::Script;
 use crate::ending::ended;
 use crate::fault::RunFault;
 use crate::manner::{Manner, run_call_on, run_script_on};
@@ -18,8 +19,8 @@ use vm_file::{Device, FileDevice, VmFile};
 pub(crate) enum Work<'a> {
     /// A call.
     Call(CallWords<'a>),
-    /// A script of these bytes.
-    Script(Vec<u8>),
+    /// The script of a path.
+    Script(&'a str, Vec<u8>),
 }
 
 /// What is run with the routines of an image, and how.
@@ -35,7 +36,7 @@ pub(crate) struct Job<'j, 'a> {
 fn work_of<'a>(rt: &HostRuntime, call: Option<CallWords<'a>>) -> Result<Work<'a>, RunFault<'a>> {
     match call {
         Some(call) => Ok(Work::Call(call)),
-        None => Ok(Work::Script(read(rt, STANDARD, MOST_READ)?)),
+        None => Ok(Work::Script(STANDARD, read(rt, STANDARD, MOST_READ)?)),
     }
 }
 
@@ -50,8 +51,29 @@ impl<'a> Job<'_, 'a> {
     {
         match &self.work {
             Work::Call(call) => run_call_on(rt, self.manner, self.image, call, kernel),
-            Work::Script(script) => run_script_on(rt, self.manner, self.image, script, kernel),
+            Work::Script(path, bytes) => {
+                match run_script_on(rt, self.manner, self.image, bytes, kernel) {
+                    Ok(()) => Ok(()),
+                    Err(fault) => Err(self.diagnosed(rt, path, bytes, fault)),
+                }
+            }
         }
+    }
+
+    /// The fault of the script, with what is wrong with its bad lines, if that is required.
+    fn diagnosed(
+        &self,
+        rt: &HostRuntime,
+        path: &str,
+        bytes: &[u8],
+        fault: RunFault<'a>,
+    ) -> RunFault<'a> {
+        let script = Script {
+            path,
+            bytes,
+            image: self.image,
+        };
+        script.diagnosed(rt.alloc(), self.manner, fault)
     }
 
     /// Runs it on a new VM file in memory, with so many bytes for blocks in memory.

@@ -19,6 +19,9 @@ pub enum RunFault<'a> {
     /// A session, or a script, has a fault.
     #[error(transparent)]
     Session(#[from] ScriptFault),
+    /// Lines of a script are bad: the first one, and diagnostics on them.
+    #[error("{0}")]
+    BadLines(ScriptFault, Vec<u8>),
     /// The line of a script that runs strictly, counted from 1, is a command that was refused.
     #[error("line {0}: refused {1}")]
     Refused(usize, u16),
@@ -53,6 +56,10 @@ impl Diagnosed for RunFault<'_> {
         match self {
             RunFault::Stream(fault) => fault.diagnostics(alloc),
             RunFault::File(fault) => fault.diagnostics(alloc),
+            RunFault::BadLines(_, told) => match Vec::from_slice(alloc, told) {
+                Ok(told) => told,
+                Err(_) => Vec::new(alloc),
+            },
             _ => Vec::new(alloc),
         }
     }

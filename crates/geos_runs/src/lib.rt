@@ -1,9 +1,10 @@
-//! What the program `geos` runs: sessions, scripts, calls and traces, on a VM file of the system or on one in memory; and chunks of a
-//! VM file that are written and read.
+//! What the program `geos` runs: sessions, scripts, tests, calls and traces, on a VM file of the system or on one in memory; and chunks of
+//! a VM file that are written and read.
 //!
 //! It takes the bytes of images, so that it is proved beside the crates that make images of texts.
 #![tactic(auto)]
 
+mod bad_lines;
 mod calling;
 mod chunks;
 mod ending;
@@ -13,6 +14,7 @@ mod objects;
 mod paging;
 mod running;
 mod step_objects;
+mod testing;
 mod tracing;
 
 pub use calling::call;
@@ -21,6 +23,7 @@ pub use fault::RunFault;
 pub use manner::Manner;
 pub use paging::Shown;
 pub use running::{run, session};
+pub use testing::test;
 pub use tracing::{Traceable, trace};
 
 /// The most bytes that are read of a script: one more than a script may have.

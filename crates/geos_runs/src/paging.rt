@@ -31,8 +31,12 @@ fn page_of(
     traced: &TracedCall,
     notes: &Notes,
 ) -> Result<Vec<u8>, AllocError> {
-    let lines = if shown.of_text { traceable.lines } else { None };
-    let text = text_of(alloc, words, lines, traced)?;
+    let origins = if shown.of_text {
+        traceable.origins
+    } else {
+        None
+    };
+    let text = text_of(alloc, words, origins, traced)?;
     let told = Told {
         file: shown.path,
         name: words.call.name,

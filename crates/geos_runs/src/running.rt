@@ -35,13 +35,13 @@ pub fn run<'a>(
 {
     let path = file;
     let file = Lockable::open(rt, path, Sharing::Alone)?;
-    let script = read(rt, script, MOST_READ);
+    let bytes = read(rt, script, MOST_READ);
     let Locked {
         device,
         lock: _lock,
     } = wait_for(rt, file)?;
     let file = opened(rt, path, device)?;
-    let work = Work::Script(script?);
+    let work = Work::Script(script, bytes?);
     Job {
         manner,
         image,

@@ -4,33 +4,33 @@ use crate::objects::put_outcome;
 use geos_cli::TracedCall;
 use geos_image::{Image, Instr};
 use geos_json::JsonLines;
-use geos_listing::put_code;
 use geos_machine::{Left, Noted};
 use geos_shell::TraceWords;
-use geos_trace::put_done;
+use geos_trace::{origin_of, put_done, put_instruction};
+use line_marks::Origin;
 use std::alloc::{AllocError, Global};
 
-/// What is traced: an image, and of a text the line of each instruction.
+/// What is traced: an image, and what its text has for each instruction.
 #[derive(Clone, Copy)]
-struct Traced<'i, 'l> {
+struct Traced<'i, 'o> {
     alloc: Global,
     image: &'i Image,
-    lines: Option<&'l [u32]>,
+    origins: Option<&'o [Origin<'o>]>,
 }
 
 impl<'i> Traced<'i, '_> {
     /// The place of an instruction, and the instruction.
     fn put_place(&self, objects: &mut JsonLines, pc: u16) -> Result<(), AllocError> {
-        let line = match self.lines {
-            Some(lines) => lines.get(usize::from(pc)).map(|line| u64::from(*line)),
-            None => None,
-        };
-        objects.number_or_null("line", line);
+        let origin = origin_of(self.origins, pc);
+        let place = origin.map(|origin| origin.place);
+        let file = place.and_then(|place| place.file);
+        objects.text_or_null("file", file.map(|file| file.as_bytes()));
+        objects.number_or_null("line", place.map(|place| place.line));
         objects.text("routine", self.routine_of(pc));
         objects.number("pc", u64::from(pc));
         let mut code = Vec::new(self.alloc);
         if pc < self.image.len() {
-            put_code(&mut code, self.image, self.image.instr(pc))?;
+            put_instruction(&mut code, self.image, origin, pc)?;
         }
         objects.text("text", code.trim_ascii());
         Ok(())
@@ -86,14 +86,14 @@ impl<'i> Traced<'i, '_> {
 pub(crate) fn trace_objects(
     alloc: Global,
     words: &TraceWords<'_>,
-    lines: Option<&[u32]>,
+    origins: Option<&[Origin<'_>]>,
     call: &TracedCall,
 ) -> Result<Vec<u8>, AllocError> {
     let image = call.checked.image();
     let traced = Traced {
         alloc,
         image,
-        lines,
+        origins,
     };
     let mut objects = JsonLines::new(alloc);
     if words.count {

@@ -14,16 +14,17 @@ use geos_image::Image;
 use geos_kernel::{Kernel, kernel_in_memory};
 use geos_shell::{Lockable, Sharing, TraceWords, print};
 use geos_trace::{put_counts, put_end, put_refused, put_steps};
+use line_marks::Origin;
 use std::alloc::{AllocError, Global};
 use vm_file::Device;
 
-/// What is traced: an image, and of a text the line of each instruction.
+/// What is traced: an image, and what its text has for each instruction.
 #[derive(Clone, Copy)]
 pub struct Traceable<'a> {
     /// The bytes of the image.
     pub image: &'a [u8],
-    /// For each pc the number of its line, counted from 1, if the image was made from a text.
-    pub lines: Option<&'a [u32]>,
+    /// For each pc what the text has for it, if the image was made from a text.
+    pub origins: Option<&'a [Origin<'a>]>,
     /// What a page shows of them, if one is required.
     pub shown: Option<Shown<'a>>,
     /// Whether JSON objects are printed.
@@ -43,15 +44,15 @@ pub(crate) fn budget_of(image: &Image, routine: u16) -> u32 {
 pub(crate) fn text_of(
     alloc: Global,
     words: &TraceWords<'_>,
-    lines: Option<&[u32]>,
+    origins: Option<&[Origin<'_>]>,
     traced: &TracedCall,
 ) -> Result<Vec<u8>, AllocError> {
     let image = traced.checked.image();
     let mut out = Vec::new(alloc);
     if words.count {
-        put_counts(&mut out, image, lines, &traced.trace)?;
+        put_counts(&mut out, image, origins, &traced.trace)?;
     } else {
-        put_steps(&mut out, image, lines, traced.trace.steps())?;
+        put_steps(&mut out, image, origins, traced.trace.steps())?;
     }
     put_end(&mut out, &traced.outcome, budget_of(image, traced.routine))?;
     Ok(out)
@@ -107,9 +108,9 @@ fn trace_on<'a, D: Device + Drop>(
         Err(fault) => return Err(trace_fault(words, fault)),
     };
     let text = match traced {
-        Ok(traced) if traceable.json => trace_objects(alloc, words, traceable.lines, &traced),
+        Ok(traced) if traceable.json => trace_objects(alloc, words, traceable.origins, &traced),
         Err(refusal) if traceable.json => refused_object(alloc, refusal.number()),
-        Ok(traced) => text_of(alloc, words, traceable.lines, &traced),
+        Ok(traced) => text_of(alloc, words, traceable.origins, &traced),
         Err(refusal) => refused_text(alloc, refusal.number()),
     };
     match text {

@@ -164,7 +164,7 @@ the word at n of pb = wa.
 Example: STW w1 p0 0    (in examples/accounts.asm)
 
 LDXB wa pb wc
-wa = the byte at wc of pb; wc is within it.
+wa = the byte at wc of pb; the verifier requires that it lies within pb.
 
 LDXW wa pb wc
 wa = the word at wc of pb, as LDXB.
@@ -176,7 +176,7 @@ STXW wa pb wc
 the word at wc of pb = wa, as LDXB.
 
 LDCB wa pb wc L
-wa = the byte at wc of pb, tested as it runs.
+wa = the byte at wc of pb; the index is tested at run time.
 It is refused, with the number in w7, and control goes to L: 14 (the offset or bytes lie
 past the end of the chunk, or of the pointer's bytes; or a map item other than 0 has no
 group).
@@ -332,25 +332,25 @@ Example: VSETMAP w0 undo    (in examples/counter.asm)
 
 VUPDATE L
 commits the current blocks as current, the saved ones as saved.
-It is refused, with the number in w7, and control goes to L: 12 (a commit failed late, so it
-is unknown what the device has; nothing more is written to it); 6 (the block would need more
-than 65,520 bytes, or the commit more than an area of the file); 13 (memory for writing the
-file was refused); 11 (the device failed).
+It is refused, with the number in w7, and control goes to L: 12 (an earlier commit failed at
+or after its write of the selector, so it is unknown what the device has; nothing more is
+written to it); 6 (the block would need more than 65,520 bytes, or the commit more than an
+area of the file); 13 (memory for writing the file was refused); 11 (the device failed).
 
 VSAVE L
 commits the current blocks as current and as saved.
-It is refused, with the number in w7, and control goes to L: 12 (a commit failed late, so it
-is unknown what the device has; nothing more is written to it); 6 (the block would need more
-than 65,520 bytes, or the commit more than an area of the file); 13 (memory for writing the
-file was refused); 11 (the device failed).
+It is refused, with the number in w7, and control goes to L: 12 (an earlier commit failed at
+or after its write of the selector, so it is unknown what the device has; nothing more is
+written to it); 6 (the block would need more than 65,520 bytes, or the commit more than an
+area of the file); 13 (memory for writing the file was refused); 11 (the device failed).
 Example: VSAVE not_saved    (in examples/accounts.asm)
 
 VREVERT L
 commits the saved blocks as current and as saved; they are the file's blocks again.
-It is refused, with the number in w7, and control goes to L: 12 (a commit failed late, so it
-is unknown what the device has; nothing more is written to it); 6 (the block would need more
-than 65,520 bytes, or the commit more than an area of the file); 13 (memory for writing the
-file was refused); 11 (the device failed).
+It is refused, with the number in w7, and control goes to L: 12 (an earlier commit failed at
+or after its write of the selector, so it is unknown what the device has; nothing more is
+written to it); 6 (the block would need more than 65,520 bytes, or the commit more than an
+area of the file); 13 (memory for writing the file was refused); 11 (the device failed).
 Example: VREVERT not_made    (in examples/accounts.asm)
 
 GNEW wa L
@@ -461,7 +461,7 @@ V4 StalePointer
 It refuses: a pointer that is read, written, copied (by MOVP too) or measured is stale.
 Example: p0 may be stale here; LFREE at line 14 may have moved its chunk: fetch p0 again
 Cure: after an instruction on an item, fetch pointers into every group again. If several
-paths lead to a label, fetch after it. Compare slots by SNE.
+paths lead to a label, fetch after it.
 
 V5 PassesEnd
 It refuses: a read or a write may pass the least length of its pointer.
@@ -470,8 +470,8 @@ w0 7 L before this bounds it, or LDCB tests it
 Cure: AND also bounds an index.
 
 V6 ChangesUnmarked
-It refuses: a slot with a VM block or DB group not known to be marked is written through a
-pointer, or its chunks are changed by an instruction that moves the chunks of the block.
+It refuses: a write through a pointer, or an instruction that moves the chunks of the block,
+changes a slot's VM block or DB group that is not known to be marked.
 Example: s0=vm is changed here, and may not be marked: VDIRTY s0 before this marks it
 
 V7 LocksIntoHeld
@@ -480,8 +480,8 @@ Example: s0=mem is locked here, and an empty slot is required: use another slot,
 s0 first
 
 V8 WrongSlot
-It refuses: a slot is used, other than to lock into it, that is empty or has a block of the
-wrong kind; or a borrowed slot is unlocked. SNE requires two blocks of one kind.
+It refuses: a slot is empty or has a block of the wrong kind when it is used, other than to
+lock into it; or a borrowed slot is unlocked. SNE requires two blocks of one kind.
 Example: s0 is empty here, and a locked block is required: lock one into s0 first, or say s0
 in the in line
 Cure: lock a block into the slot on each path; leave borrowed blocks to the caller.
@@ -510,16 +510,13 @@ Example: s0=mem is required at line 52, and not known here; no path leads here: 
 V13 EdgeUnpaid
 It refuses: an edge is not paid for.
 Example: 4 steps are required from here, and 2 are left
-Cure: put a LOOP on each cycle. Set its counter on each path to the loop, and in no callee.
-Bound the word of SETKW.
+Cure: put a LOOP on each cycle.
 
 V14 OverBudget
-It refuses: at the first pc the potential's constant is above the budget, or a coefficient
-is above 0.
+It refuses: at the first pc of a routine the potential's constant is above the budget, or a
+coefficient is above 0.
 Example: 2 steps are required from the start of v14, and the budget is 1: the least budget
 is 2
-Cure: put a LOOP on each cycle. Set its counter on each path to the loop, and in no callee.
-Bound the word of SETKW.
 
 refused 1 BadHandle
 no block has this handle, or the block is no group and a group is required.
@@ -555,7 +552,8 @@ refused 11 Disk
 the device failed.
 
 refused 12 Unsure
-a commit failed late, so it is unknown what the device has; nothing more is written to it.
+an earlier commit failed at or after its write of the selector, so it is unknown what the
+device has; nothing more is written to it.
 
 refused 13 Memory
 memory for writing the file was refused.
@@ -587,6 +585,7 @@ why 6 TooMany
 the 33rd routine, the 4,097th instruction; at line 1, a text that is too long.
 
 why 7 OutOfPlace
-`in` or `out` twice or elsewhere. An instruction before any routine. A routine without
-instruction, at its first line. A label before `routine`, `in`, `out` or the end of the
-text, at its line. A text without routine, at line 1.";
+a second line `in` or `out` of a routine, or one that is not between `routine` and the first
+instruction. An instruction before any routine. A routine without instruction, at its first
+line. A label before `routine`, `in`, `out` or the end of the text, at its line. A text
+without routine, at line 1.";
