@@ -1,7 +1,8 @@
 /* Takhvoi for C and C++: blocks that move, VM files, and routines that a verifier has checked. docs/EMBEDDING.md says how to begin.
  *
- * Each call answers TAKHVOI_DONE, or a number below that says why not, and never ends the process. Any handle, chunk, offset and
- * length may be given. What C has to keep to, since nothing tests it:
+ * Each call answers TAKHVOI_DONE, or a number below that says why not, and never ends the process. If it is not done, the numbers that it
+ * would have told are open, unless its lines below say more. Any handle, chunk, offset and length may be given. What C has to keep to, since
+ * nothing tests it:
  *
  *   - A takhvoi_kernel is TAKHVOI_NONE at first. Its fields are left alone. While it is open it is not copied, though it may be moved,
  *     and no two calls work on it at once. Two threads may have a kernel each.
@@ -255,8 +256,8 @@ TAKHVOI_CALL uint32_t takhvoi_step(takhvoi_kernel *kernel, uint32_t number, uint
 TAKHVOI_CALL uint32_t takhvoi_step_bytes(takhvoi_kernel *kernel, uint32_t number, uint64_t from, uint8_t *into, size_t len);
 TAKHVOI_CALL uint32_t takhvoi_performed(takhvoi_kernel *kernel);
 
-/* Images, by numbers that are good until they are unloaded, or the kernel is closed. `place` is the offset of the first faulty byte
- * (BAD_IMAGE), or the first instruction that rule `rule` refuses (REFUSED). */
+/* Images, by numbers that are good until they are unloaded, or the kernel is closed. Each image gets the lowest number that is free. `place` is
+ * the offset of the first faulty byte (BAD_IMAGE), or the first instruction that rule `rule` refuses (REFUSED). */
 TAKHVOI_CALL uint32_t takhvoi_load(takhvoi_kernel *kernel, const uint8_t *bytes, size_t len, uint32_t *image, uint64_t *place, uint32_t *rule);
 /* What a routine does to what is not its own, as bits: docs/GRANTS.md explains each. READS_LENT and CHANGES_LENT have the bits of all four slots;
  * that of slot k is 1 << (8 + k) and 1 << (12 + k). */

@@ -1,6 +1,8 @@
 -- Lists in which elements are put and set.
-use Rattle.std.proofs.Common.{◌≡◌, ◌<◌, ◌≤◌, ℕ, zero, suc, true, List, [], ◌∷◌, ◌++◌, length, Option, Some, None}
-use Rattle.std.proofs.Common.{is_none, slice_get, slice_index_or, slice_set, refl, ap, arith}
+use Rattle.std.proofs.Common.{◌≡◌, ◌+◌, ◌<◌, ◌≤◌, ℕ, zero, suc, Bool, true, false, not, List, [], ◌∷◌, ◌++◌, length, Option, Some, None}
+use Rattle.std.proofs.Common.{is_none, is_some, slice_get, slice_index_or, slice_set, refl, ap, sym, subst, below_more, arith}
+use Rattle.geos_image.specs.Parts.{Parts}
+use Rattle.takhvoi.specs.Images.{IsLowestFree}
 
 -- elements stay where one is put behind them
 pub stays_behind : {X : Type 0} (xs : List X) (y : X) (n : ℕ) (x : X) → slice_get xs n ≡ Some x → slice_get (xs ++ y ∷ []) n ≡ Some x
@@ -31,6 +33,31 @@ none_there [] n d x none e = absurd cc
 none_there (None ∷ xs) zero d x none e = absurd cc
 none_there (Some y ∷ xs) zero d x none e = absurd cc
 none_there (z ∷ xs) (suc n) d x none e = none_there xs n d x none e
+
+-- what a test says of an option that is not none
+pub not_none : {X : Type 0} (o : Option X) (b : Bool) → is_some o ≡ not b → b ≡ false → is_none o ≡ false
+not_none (Some x) b is said = refl
+not_none None false is said = absurd cc
+not_none None true is said = absurd cc
+
+-- an element that is not none is another
+some_there : {X : Type 0} (xs : List (Option X)) (n : ℕ) (d : Option X) → n < length xs → is_none (slice_index_or xs n d) ≡ false
+    → (x : X) × (slice_get xs n ≡ Some (Some x))
+some_there [] n d within some = absurd (omega (arith, within))
+some_there (None ∷ xs) zero d within some = absurd cc
+some_there (Some y ∷ xs) zero d within some = (y, refl)
+some_there (z ∷ xs) (suc n) d within some = some_there xs n d (omega (arith, within)) some
+
+-- then each below the next number is another
+pub some_below : {X : Type 0} (xs : List (Option X)) (n : ℕ) (d : Option X) → n < length xs → is_none (slice_index_or xs n d) ≡ false
+    → ((m : ℕ) → m < n → (x : X) × (slice_get xs m ≡ Some (Some x))) → (m : ℕ) → m < n + 1 → (x : X) × (slice_get xs m ≡ Some (Some x))
+some_below {X} xs n d within some below =
+    below_more (λ m. (x : X) × (slice_get xs m ≡ Some (Some x))) n below (some_there xs n d within some)
+
+-- the lowest free number, under another name
+pub is_lowest : (images : List (Option Parts)) (k n : ℕ) → ((image : Parts) → slice_get images k ≡ Some (Some image) → ⊥)
+    → ((m : ℕ) → m < k → (image : Parts) × (slice_get images m ≡ Some (Some image))) → n ≡ k → IsLowestFree images n
+is_lowest images k n free lower is = subst (λ n. IsLowestFree images n) (sym is) (record { free = free; lower = lower })
 
 -- where one is set that is not this, this stays
 pub set_stays : {X : Type 0} (xs : List X) (n : ℕ) (y : X) (m : ℕ) (x : X) → (slice_get xs n ≡ Some x → ⊥) → slice_get xs m ≡ Some x

@@ -1,5 +1,5 @@
 -- The results of loading and running images.
-use Rattle.std.specs.Prelude.{◌≡◌, ◌⊎◌, ◌<◌, ◌≤◌, ℕ, [], false, true, Some, None, IfSome, IsSomeAnd, List, length, take, unwrap_or, slice_get}
+use Rattle.std.specs.Prelude.{◌≡◌, ◌⊎◌, ◌<◌, ◌≤◌, ℕ, [], false, true, Option, Some, None, IfSome, IsSomeAnd, List, length, take, unwrap_or, slice_get}
 use Rattle.std.specs.Prelude.{Ok}
 use Rattle.lmem_raw.specs.Bytes.{with_part}
 use Rattle.geos_image.specs.Legal.{text_end}
@@ -35,6 +35,11 @@ use Rattle.takhvoi.specs.Own.{IsPending}
 abbrev pub StandsFor : System → ℕ → Parts → Type 0
 StandsFor system n image = slice_get system.images.items n ≡ Some (Some image)
 
+-- no image has the number, and each lower number has one
+pub record IsLowestFree (images : List (Option Parts)) (n : ℕ) : Type 0 where
+  pub free : (image : Parts) → slice_get images n ≡ Some (Some image) → ⊥
+  pub lower : (m : ℕ) → m < n → (image : Parts) × (slice_get images m ≡ Some (Some image))
+
 -- the kernel is as before, and each image has its number as before
 pub record Keeps (old new : System) : Type 0 where
   pub kernel : new.kernel ≡ old.kernel
@@ -45,15 +50,18 @@ pub record Keeps (old new : System) : Type 0 where
 abbrev pub LoadsOrTells : ℕ → Type 0
 LoadsOrTells status = (status ≡ 0) ⊎ ((status ≡ 111) ⊎ ((status ≡ 112) ⊎ (status ≡ 113)))
 
--- if it is done, the bytes encode an image that the verifier accepts, and the image has this number; the kernel and the other images stay
+-- if it is done, the bytes encode an image that the verifier accepts, and the image has this number, the lowest that was free; the kernel and
+-- the other images stay
 abbrev pub IsLoaded : List ℕ → ℕ → ℕ → System → System → Type 0
 IsLoaded bytes n status old new =
-    (status ≡ 0 → (image : Parts) × (image_at bytes ≡ Ok image) × StandsFor new n image) × LoadsOrTells status × Keeps old new
+    (status ≡ 0 → (image : Parts) × (image_at bytes ≡ Ok image) × IsLowestFree old.images.items n × StandsFor new n image)
+    × LoadsOrTells status × Keeps old new
 
 -- the same, and the image's public routines do only what is granted; if one does more, the status is 116
 abbrev pub IsLoadedGranted : List ℕ → ℕ → ℕ → ℕ → System → System → Type 0
 IsLoadedGranted bytes grants n status old new =
-    (status ≡ 0 → (image : Parts) × (image_at bytes ≡ Ok image) × StandsFor new n image × IsGranted image (effects_in grants))
+    (status ≡ 0 → (image : Parts) × (image_at bytes ≡ Ok image) × IsLowestFree old.images.items n × StandsFor new n image
+    × IsGranted image (effects_in grants))
     × ((status ≡ 116) ⊎ LoadsOrTells status) × Keeps old new
 
 -- the bytes encode an image that the verifier accepts. The instruction at this place has this effect, which is not granted: in this public routine, or in one that
@@ -126,8 +134,7 @@ pub record HasRun (n routine : ℕ) (words handles after room output : List ℕ)
 -- the run was performed; or the allocator refused the memory for its notes, and it did not begin
 abbrev pub RunsOrNot : ℕ → ℕ → List ℕ → List ℕ → List ℕ → List ℕ → List ℕ → ℕ → ℕ → ℕ → System → System → Type 0
 RunsOrNot n routine words handles after room output count steps status old new =
-    HasRun n routine words handles after room output count steps status old new
-    ⊎ (IsUnbegun status old new × (after ≡ words) × (output ≡ room))
+    HasRun n routine words handles after room output count steps status old new ⊎ IsUnbegun status old new
 
 -- the run on a kernel, or why it does not begin
 abbrev pub EndsRun : ℕ → ℕ → List ℕ → List ℕ → List ℕ → List ℕ → List ℕ → ℕ → ℕ → ℕ → System → System → Type 0

@@ -30,6 +30,14 @@ fn end_of(at: u16, len: usize) -> Option<u16>
     }
 }
 
+/// Where bytes are: the block with a number, what the value refers to, and an offset there.
+#[derive(Clone, Copy)]
+struct Place {
+    block: u32,
+    refer: Refer,
+    at: u16,
+}
+
 fn read_in(system: &mut System, name: Name, refer: Refer, at: u16, into: &mut [u8]) -> u32
     requires { at + length into.old ≤ least refer }
     ensures done { Done (MayNotRead name at (length into.old)) (IsCopied (refer_row name refer) at into.new) result system.old system.new }
@@ -47,23 +55,23 @@ fn read_in(system: &mut System, name: Name, refer: Refer, at: u16, into: &mut [u
     }
 }
 
-/// Copies bytes out of what the value refers to, from an offset on.
-fn read(
-    alloc: Global,
-    handle: &mut Handle,
-    block: u32,
-    refer: Refer,
-    at: u16,
-    into: &mut [u8],
-) -> u32
-    requires { at + length into.old ≤ least refer }
-    ensures served { Served (MayNotRead (name_of block) at (length into.old)) (IsCopied (refer_row (name_of block) refer) at into.new) result handle.old handle.new }
+/// Copies bytes out of what the value refers to, from the offset on.
+fn read(alloc: Global, handle: &mut Handle, place: Place, into: &mut [u8]) -> u32
+    requires { place.at + length into.old ≤ least place.refer }
+    ensures served { Served (MayNotRead (name_of place.block) place.at (length into.old)) (IsCopied (refer_row (name_of place.block) place.refer) place.at into.new)
+        result handle.old handle.new }
     ensures kept { (result ≡ 0 → ⊥) → into.new ≡ into.old }
 {
     let Some(mut system) = take(alloc, handle) else {
         return NO_KERNEL;
     };
-    let status = read_in(&mut system, name_of(block), refer, at, into);
+    let status = read_in(
+        &mut system,
+        name_of(place.block),
+        place.refer,
+        place.at,
+        into,
+    );
     put(handle, system);
     status
 }
@@ -90,16 +98,22 @@ fn write_in(system: &mut System, name: Name, refer: Refer, at: u16, from: &[u8])
     }
 }
 
-/// Stores bytes into what the value refers to, from an offset on.
-fn write(alloc: Global, handle: &mut Handle, block: u32, refer: Refer, at: u16, from: &[u8]) -> u32
-    requires { at + length from.now ≤ least refer }
-    ensures { Served (MayNotWrite (name_of block) at (length from.now)) (ChangesIn (name_of block) (IsWritten (refer_row (name_of block) refer) at from.now))
-        result handle.old handle.new }
+/// Stores bytes into what the value refers to, from the offset on.
+fn write(alloc: Global, handle: &mut Handle, place: Place, from: &[u8]) -> u32
+    requires { place.at + length from.now ≤ least place.refer }
+    ensures { Served (MayNotWrite (name_of place.block) place.at (length from.now))
+        (ChangesIn (name_of place.block) (IsWritten (refer_row (name_of place.block) place.refer) place.at from.now)) result handle.old handle.new }
 {
     let Some(mut system) = take(alloc, handle) else {
         return NO_KERNEL;
     };
-    let status = write_in(&mut system, name_of(block), refer, at, from);
+    let status = write_in(
+        &mut system,
+        name_of(place.block),
+        place.refer,
+        place.at,
+        from,
+    );
     put(handle, system);
     status
 }
@@ -133,9 +147,11 @@ pub extern "C" fn takhvoi_read(
         Some(end) => read(
             alloc,
             handle,
-            block,
-            Refer::Deref { c: chunk, n: end },
-            at,
+            Place {
+                block,
+                refer: Refer::Deref { c: chunk, n: end },
+                at,
+            },
             into,
         ),
         None => refuse(alloc, handle),
@@ -160,13 +176,15 @@ pub extern "C" fn takhvoi_caread(
         Some(end) => read(
             alloc,
             handle,
-            block,
-            Refer::Caelt {
-                c: chunk,
-                i: index,
-                n: end,
+            Place {
+                block,
+                refer: Refer::Caelt {
+                    c: chunk,
+                    i: index,
+                    n: end,
+                },
+                at,
             },
-            at,
             into,
         ),
         None => refuse(alloc, handle),
@@ -241,9 +259,11 @@ pub extern "C" fn takhvoi_write(
         Some(end) => write(
             alloc,
             handle,
-            block,
-            Refer::Deref { c: chunk, n: end },
-            at,
+            Place {
+                block,
+                refer: Refer::Deref { c: chunk, n: end },
+                at,
+            },
             from,
         ),
         None => refuse(alloc, handle),
@@ -267,13 +287,15 @@ pub extern "C" fn takhvoi_cawrite(
         Some(end) => write(
             alloc,
             handle,
-            block,
-            Refer::Caelt {
-                c: chunk,
-                i: index,
-                n: end,
+            Place {
+                block,
+                refer: Refer::Caelt {
+                    c: chunk,
+                    i: index,
+                    n: end,
+                },
+                at,
             },
-            at,
             from,
         ),
         None => refuse(alloc, handle),

@@ -1,7 +1,7 @@
 //! Loading of images, and running of their routines.
 
 ghost use Rattle.std.specs.Option.{option_copied};
-ghost use Rattle.std.specs.Prelude.{◌≡◌, ◌≤◌, ◌⊎◌, ℕ, true, Ok, Err, Some, IfErr, IfOk, IfNone, IfSome, IsSomeAnd, length, slice_get};
+ghost use Rattle.std.specs.Prelude.{◌≡◌, ◌<◌, ◌≤◌, ◌⊎◌, ℕ, true, Ok, Err, Some, IfErr, IfOk, IfNone, IfSome, IsSomeAnd, length, slice_get};
 ghost use Rattle.lmem_raw.specs.Bytes.{with_part};
 ghost use Rattle.geos_image.specs.Parts.{Parts};
 ghost use Rattle.geos_image.specs.Reading.{image_at};
@@ -13,7 +13,7 @@ ghost use Rattle.geos_machine.specs.Lent.{Lends};
 ghost use Rattle.geos_machine.specs.Runs.{Gave, Throughout};
 ghost use Rattle.granted_runs.specs.Keeps.{RanWithin};
 ghost use Rattle.geos_verify.specs.RuleText.{rule_number};
-ghost use Rattle.takhvoi.specs.Images.{EndsRun, FindsRoutine, IsLoaded, IsNamed, IsRejected, IsUnloaded, NoneIsNamed, ServesRun};
+ghost use Rattle.takhvoi.specs.Images.{EndsRun, FindsRoutine, IsLoaded, IsLowestFree, IsNamed, IsRejected, IsUnloaded, NoneIsNamed, ServesRun};
 
 use crate::handle::Handle;
 use crate::held::{put, take};
@@ -32,9 +32,10 @@ use vm_file::Device;
 const MOST_IMAGES: usize = 65_536;
 
 /// The lowest number without an image.
-#[tactic(auto, using(crate::proofs::Numbers::none_past, crate::proofs::Numbers::none_there))]
+#[tactic(auto, using(crate::proofs::Numbers::none_past, crate::proofs::Numbers::none_there, crate::proofs::Numbers::some_below))]
 fn lowest_free(images: &Vec<Option<Checked>>) -> usize
     ensures free { (image : Parts) → slice_get images.now.items result ≡ Some (Some image) → ⊥ }
+    ensures lower { (m : ℕ) → m < result → (image : Parts) × (slice_get images.now.items m ≡ Some (Some image)) }
     ensures within { result ≤ length images.now.items }
 {
     for n in 0..images.len() {
@@ -48,6 +49,7 @@ fn lowest_free(images: &Vec<Option<Checked>>) -> usize
 /// Appends an image to the others.
 #[tactic(auto, using(crate::proofs::Numbers::stays_behind, crate::proofs::Numbers::is_last))]
 fn append(images: &mut Vec<Option<Checked>>, checked: Checked, number: &mut u32) -> u32
+    ensures number { result ≡ 0 → number.new ≡ length images.old.items }
     ensures stands { result ≡ 0 → slice_get images.new.items number.new ≡ Some (Some checked) }
     ensures stay { (n : ℕ) (image : Parts) → slice_get images.old.items n ≡ Some (Some image) → slice_get images.new.items n ≡ Some (Some image) }
     ensures own { (result ≡ 0) ⊎ (result ≡ 111) }
@@ -64,8 +66,9 @@ fn append(images: &mut Vec<Option<Checked>>, checked: Checked, number: &mut u32)
 }
 
 /// Stores an image under the lowest free number. `NO_MEMORY` if there are 65,536 already, or if the allocator refuses.
-#[tactic(auto, using(crate::proofs::Numbers::set_stays, crate::proofs::Numbers::set_is))]
+#[tactic(auto, using(crate::proofs::Numbers::set_stays, crate::proofs::Numbers::set_is, crate::proofs::Numbers::is_lowest))]
 pub(crate) fn keep(images: &mut Vec<Option<Checked>>, checked: Checked, number: &mut u32) -> u32
+    ensures lowest { result ≡ 0 → IsLowestFree images.old.items number.new }
     ensures stands { result ≡ 0 → slice_get images.new.items number.new ≡ Some (Some checked) }
     ensures stay { (n : ℕ) (image : Parts) → slice_get images.old.items n ≡ Some (Some image) → slice_get images.new.items n ≡ Some (Some image) }
     ensures own { (result ≡ 0) ⊎ (result ≡ 111) }
@@ -204,27 +207,33 @@ fn put_words(words: &[u16], into: &mut [u16])
     into[..n].copy_from_slice(&words[..n]);
 }
 
+/// The routine of a run, its words, and the handles of the blocks that it is lent.
+#[derive(Drop)]
+struct Start {
+    routine: u16,
+    words: [u16; 8],
+    handles: [u16; 4],
+}
+
 /// Runs a routine, which leaves what is not granted as it was.
 fn run_on<'m, D: Device + Drop>(
     machine: &'m mut Machine,
     checked: &Checked,
-    routine: u16,
-    words: &[u16; 8],
-    handles: &[u16; 4],
+    start: &Start,
     kernel: &mut Kernel<D>,
 ) -> &'m Outcome
-    requires admitted { admits checked.now routine words.now ≡ true }
-    requires lent { Lends kernel.old.core (entry_slots checked.now routine) handles.now }
-    ensures gave { Gave D.medium checked.now routine words.now handles.now kernel.old kernel.new result.now }
+    requires admitted { admits checked.now start.now.routine start.now.words ≡ true }
+    requires lent { Lends kernel.old.core (entry_slots checked.now start.now.routine) start.now.handles }
+    ensures gave { Gave D.medium checked.now start.now.routine start.now.words start.now.handles kernel.old kernel.new result.now }
     ensures within { (f : VmFile) → IsFileOf (D.medium.honest kernel.old.device) kernel.old.core f
         → RanWithin (D.medium.honest kernel.old.device) (Throughout D.medium kernel.old.device kernel.new.device)
-        checked.now routine words.now handles.now kernel.old.core kernel.new.core result.now f }
+        checked.now start.now.routine start.now.words start.now.handles kernel.old.core kernel.new.core result.now f }
 {
     let call = RoutineCall {
         checked,
-        routine,
-        words,
-        handles,
+        routine: start.routine,
+        words: &start.words,
+        handles: &start.handles,
     };
     run_granted(machine, &call, kernel)
 }
@@ -239,7 +248,8 @@ fn run_in(
     count: &mut u32,
     steps: &mut u32,
 ) -> u32
-    ensures { EndsRun number routine words.old handles.now words.new output.old output.new count.new steps.new result system.old system.new }
+    ensures ends { EndsRun number routine words.old handles.now words.new output.old output.new count.new steps.new result system.old system.new }
+    ensures kept { (result ≡ 0 → ⊥) → (words.new ≡ words.old) × (output.new ≡ output.old) }
 {
     let System {
         kernel,
@@ -261,7 +271,12 @@ fn run_in(
     }
     // what the file keeps before it
     kernel.memory_is_legal();
-    let outcome = run_on(machine, checked, routine, words, handles, kernel);
+    let start = Start {
+        routine,
+        words: *words,
+        handles: *handles,
+    };
+    let outcome = run_on(machine, checked, &start, kernel);
     rest(kernel, *hosted);
     *words = outcome.words;
     *steps = outcome.steps;
@@ -286,7 +301,8 @@ pub extern "C" fn takhvoi_run(
     count: &mut u32,
     steps: &mut u32,
 ) -> u32
-    ensures { ServesRun number routine words.old handles.now words.new output.old output.new count.new steps.new result handle.old handle.new }
+    ensures served { ServesRun number routine words.old handles.now words.new output.old output.new count.new steps.new result handle.old handle.new }
+    ensures kept { (result ≡ 0 → ⊥) → (words.new ≡ words.old) × (output.new ≡ output.old) }
 {
     let Some(mut system) = take(alloc, handle) else {
         return NO_KERNEL;

@@ -10,10 +10,10 @@ use Rattle.takhvoi.proofs.access.write.Goals as goal
 
 pub returns : goal.returns
 returns c =
-    let name = name_of c.args.block in
+    let name = name_of c.args.place.block in
     let from = c.args.from.now in
-    served (MayNotWrite name c.args.at (length from)) (ChangesIn name (IsWritten (refer_row name c.args.refer) c.args.at from))
+    served (MayNotWrite name c.args.place.at (length from)) (ChangesIn name (IsWritten (refer_row name c.args.place.refer) c.args.place.at from))
     c.write_in-status.result c.args.handle.now c.put.new.handle c.deref_mut.result.now c.write_in-status.new.system
     c.in-Some.ensures.some.0 (c.deref_mut.ensures.value ∙ c.in-Some.ensures.some.1) c.put.ensures.live c.put.ensures.value
-    (subst (λ n. Done (MayNotWrite n c.args.at (length from)) (ChangesIn n (IsWritten (refer_row n c.args.refer) c.args.at from))
+    (subst (λ n. Done (MayNotWrite n c.args.place.at (length from)) (ChangesIn n (IsWritten (refer_row n c.args.place.refer) c.args.place.at from))
     c.write_in-status.result c.deref_mut.result.now c.write_in-status.new.system) c.name_of.ensures c.write_in-status.ensures)

@@ -4,7 +4,7 @@ use Rattle.takhvoi.proofs.images.load_in.Goals as goal
 
 pub returns-in-Ok-clause-loaded : goal.returns-in-Ok-clause-loaded
 returns-in-Ok-clause-loaded c = (
-  λ done. (c.in-Ok.checked, c.in-Ok.ensures.image, c.keep.ensures.stands done),
+  λ done. (c.in-Ok.checked, c.in-Ok.ensures.image, c.keep.ensures.lowest done, c.keep.ensures.stands done),
   ⊎_elim (λ done. inl done) (λ memory. inr (inl memory)) c.keep.ensures.own,
   record { kernel = refl; hosted = refl; images = c.keep.ensures.stay },
 )

@@ -13,8 +13,8 @@ use Rattle.takhvoi.proofs.Notes.{goes-running, leads-from, since-then}
 use Rattle.takhvoi.proofs.Ran.{runs-from}
 use Rattle.takhvoi.proofs.images.run_in.Goals as goal
 
-pub returns : goal.returns
-returns c =
+pub returns-clause-ends : goal.returns-clause-ends
+returns-clause-ends c =
     let system = c.args.system.now in
     let old = c.make_room.new.kernel in
     let same : old ≡ system.kernel = c.make_room.ensures in
