@@ -14,6 +14,11 @@ from xml.sax.saxutils import escape
 
 TOP = Path(__file__).resolve().parent.parent
 WIDTH = 860
+# The crates that the figure of the layers names, of layers with more than five.
+NAMED = (
+    "geos_image geos_verify geos_semantics geos_machine granted_runs geos_source geos_infer geos_asm geos_listing geos_explain "
+    "geos_shell geos_files geos_runs geos_cli geos kernel_trials routine_trials worked_examples"
+).split()
 # Estimated width of a letter, in pixels.
 LETTER = 8.2
 
@@ -76,21 +81,15 @@ def layers_of(crates: str) -> list[tuple[str, list[str]]]:
 
 
 def layers() -> str:
-    drawing = Drawing("The crates in layers, the lowest at the bottom")
+    drawing = Drawing("The layers, the lowest at the bottom, each with some of its crates")
     y = 10.0
     for heading, crates in reversed(layers_of(read("crates.txt"))):
-        x, row, boxes = 20.0, 0, []
-        for crate in crates:
-            width = len(crate) * LETTER + 16
-            if x + width > WIDTH - 20:
-                x, row = 20.0, row + 1
-            boxes.append((x, y + 28 + row * 32, width, crate))
-            x += width + 8
-        height = 28 + (row + 1) * 32 + 4
-        drawing.box(10, y, (WIDTH - 20, height), "band", heading)
-        for left, top, width, crate in boxes:
-            drawing.box(left, top, (width, 26), "box", crate)
-        y += height + 6
+        shown = [crate for crate in crates if crate in NAMED] if len(crates) > 5 else crates
+        more = len(crates) - len(shown)
+        drawing.box(10, y, (WIDTH - 20, 46), "band")
+        drawing.text(20, y + 19, heading, "head")
+        drawing.text(20, y + 37, ", ".join(shown) + (f", and {more} more" if more else ""), "small")
+        y += 52
     return drawing.svg(y + 4)
 
 
@@ -194,7 +193,7 @@ def potential() -> str:
 def pipeline() -> str:
     drawing = Drawing("From source to run")
     boxes = (
-        ("source", ["assembly text,", "written by you"]),
+        ("text or source", ["assembly, or the", "structured language"]),
         ("image", ["bytecode with rows", "and potentials"]),
         ("checked image", ["no rule refuses it", "at any instruction"]),
         ("machine and kernel", ["blocks that move,", "VM file on a device"]),

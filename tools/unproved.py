@@ -38,7 +38,7 @@ OWN_LINE = re.compile(rb"(interpreter|checked|races): |run=|rt: ")
 TAKEN = ("program", "stdin", "stdout", "stderr", "given")
 # The options of `geos` with a word after them.
 WITH_WORD = ("--file", "--grant", "--html", "--most-steps", "--only", "--region", "--script", "--steps")
-# The options of `call` and `trace` that name a file that is written.
+# The options of `call`, `test` and `trace` that name a VM file, or a file that is written.
 NEEDS_PROOF = ("--file", "--html")
 # The options that may stand before the command.
 ANYWHERE = ("--diagnostics", "--no-warnings")
@@ -93,7 +93,7 @@ class Request:
         """Whether it may change a file, or reads a VM file."""
         if self.asks_for_help:
             return False
-        if self.command in ("call", "trace"):
+        if self.command in ("call", "test", "trace"):
             return any(word in NEEDS_PROOF or word.startswith(tuple(f"{name}=" for name in NEEDS_PROOF)) for word in self.words)
         if self.command in ("budget", "fmt") and "--in-place" in self.words:
             return True
@@ -101,12 +101,14 @@ class Request:
             return len(self.plain) > 1 and self.words[self.plain[1]] != "-"
         if self.command == "check":
             return any(is_vm_file(self.words[place]) for place in self.plain[:1])
-        return self.command in ("new", "run", "put", "get", "dump", "map")
+        return self.command in ("new", "copy", "run", "put", "get", "dump", "diff", "map")
 
     def inputs(self) -> list[int]:
         """Where the words stand that name files to read."""
         if self.asks_for_help:
             return []
+        if self.command == "test":
+            return self.plain
         reads = self.command in ("call", "trace", "asm", "budget", "fmt", "list", "check", "explain")
         return [*(self.plain[:1] if reads else []), *self.scripts]
 
@@ -143,8 +145,8 @@ class Trial:
         word = self.words[place]
         option = SCRIPT if word.startswith(SCRIPT) else ""
         name = word = word.removeprefix(option)
-        if not_text(word):
-            return  # the program refuses it
+        if not_text(word) or name in self.files:
+            return  # the program refuses it, or the caller names it twice
         if os.path.normpath(word) != word or name.split("/")[0] in ("", "..", *TAKEN) or "=" in word:
             name = f"given/{len(self.renamed)}{SOURCE if word.endswith(SOURCE) else ''}"
             self.renamed[name] = word
@@ -162,6 +164,11 @@ class Trial:
                 raise Refused(f"an unproved run reads at most {MOST_INPUT} bytes, and {word!r} has more; {CURE}")
         finally:
             os.close(file)
+
+    @property
+    def names_scripts(self) -> bool:
+        """Whether the program prints the names of files on standard output."""
+        return Request(self.words).command == "test"
 
     def restored(self, said: bytes) -> bytes:
         """A message of the program with the names that the caller gave, written as the program writes names."""
@@ -284,7 +291,7 @@ def report(trial: Trial, status: int, printed: bytes, said: bytes) -> int:
     with contextlib.suppress(OSError):
         write(2, trial.restored(own))
     try:
-        write(1, printed)
+        write(1, trial.restored(printed) if trial.names_scripts else printed)
     except OSError:
         raise Refused("cannot write -") from None
     return status
