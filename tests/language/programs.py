@@ -12,7 +12,8 @@ const K = {};
 @dataclass(frozen=True)
 class Known:
     """What statements may use at a place: words, those of them that can't be set, blocks with their kinds, pointers with their block, their
-    bytes and whether they lead to a `Pair`; whether a loop, and a path of refusals, is around; and whether `why` is known."""
+    bytes and whether they lead to a `Pair`; whether a loop, and a path of refusals, is around; whether `why` is known; and what the names that
+    a `for` between constants counts are below."""
 
     words: tuple[str, ...] = ()
     fixed: tuple[str, ...] = ()
@@ -22,6 +23,7 @@ class Known:
     result: bool = False
     fails: bool = True
     why: bool = False
+    below: dict[str, int] = field(default_factory=dict)
 
     def with_word(self, *names: str) -> "Known":
         return replace(self, words=(*self.words, *names))
@@ -146,6 +148,9 @@ class Writer:
     def access(self, known: Known) -> str:
         name = self.pick(known.pointers)
         least, pair = known.pointers[name][1:]
+        counted = [i for i in known.below if i in known.words and known.below[i] < least]
+        if counted and self.chance(0.7):
+            return f"{name}.{self.pick('wb')}[{self.pick(counted)}]"
         if pair and self.chance(0.7):
             return name + self.pick([".left", ".right", ".tag", ".more[1]", f".more[{self.index(known)}]?"])
         letter = self.pick("wb")
@@ -181,12 +186,12 @@ class Writer:
                 arguments.append(block)
         return arguments
 
-    def condition(self, known: Known, depth: int = 1) -> str:
+    def condition(self, known: Known, depth: int = 3) -> str:
         form = self.random.random()
         if depth and form < 0.15:
-            return f"{self.condition(known, 0)} {self.pick(['&&', '||'])} {self.condition(known, 0)}"
-        if depth and form < 0.2:
-            return f"!({self.condition(known, 0)})"
+            return f"{self.condition(known, depth - 1)} {self.pick(['&&', '||'])} {self.condition(known, depth - 1)}"
+        if depth and form < 0.25:
+            return f"{self.pick(['', '!', '!'])}({self.condition(known, depth - 1)})"
         alike = [(a, b) for a in known.blocks for b in known.blocks if a != b and known.blocks[a] == known.blocks[b]]
         if alike and form < 0.5:
             return f"{self.pick(['same', 'differ'])}({', '.join(self.pick(alike))})"
@@ -262,21 +267,24 @@ class Writer:
     def scope(self, known: Known, depth: int) -> tuple[str, Known]:
         return f"{{\n{self.statements(known, 2, depth + 1)[0]}\n}}", self.after(known)
 
-    def iterations(self, known: Known, depth: int, words: tuple[str, ...]) -> str:
+    def iterations(self, known: Known, depth: int, words: tuple[str, ...], below: int = 65_536) -> str:
         """The body of a loop, and its `else`."""
         inner = replace(known, words=(*known.words[-3:], *words), fixed=(*known.fixed, *words), loops=known.loops + 1)
+        inner = replace(inner, below=known.below | dict.fromkeys(words, below))
         body = self.statements(replace(inner, pointers={}) if self.chance(0.6) else inner, self.number(1, 3), depth + 1)[0]
         other = f" else {{\n{self.statements(replace(known, pointers={}), 1, depth + 1)[0]}\n}}" if self.chance(0.3) else ""
         return f"{{\n{body}\n}}{other}"
 
     def count(self, known: Known, depth: int) -> tuple[str, Known]:
         name, word = self.fresh("i"), self.word(known)
-        spans = [f"0..{self.number(1, 4)}", f"2..{self.number(3, 8)} step 2", f"({word} & 3)..({word} & 7)", "1..3"]
-        spans += ["0..n", "1..n", "1..n", "K..n", f"n..({word} & 7)"] if "n" in known.words else []
-        return f"for {name} in {self.pick(spans)} {self.iterations(known, depth, (name,))}", self.after(known)
+        high, above = self.number(1, 4), self.number(3, 8)
+        spans = {f"0..{high}": high, f"2..{above} step 2": above, f"({word} & 3)..({word} & 7)": 65_536, "1..3": 3}
+        spans |= dict.fromkeys(["0..n", "1..n", "K..n", f"n..({word} & 7)"] if "n" in known.words else [], 65_536)
+        span = self.pick(spans)
+        return f"for {name} in {span} {self.iterations(known, depth, (name,), spans[span])}", self.after(known)
 
     def repeat(self, known: Known, depth: int) -> tuple[str, Known]:
-        head = f"while {self.condition(known, 0)}" if self.chance(0.7) else "loop"
+        head = f"while {self.condition(known, 1)}" if self.chance(0.7) else "loop"
         return f"{head} max {self.number(1, 4)} {self.iterations(known, depth, ())}", self.after(known)
 
     def lock(self, known: Known, depth: int) -> tuple[str, Known]:

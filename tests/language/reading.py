@@ -246,7 +246,7 @@ class Reader:
 
     def access(self) -> Tree:
         if self.take("!"):
-            return Tree("not", {"test": self.access()})
+            return Tree("not", {"test": self.operation(2)})
         tree = self.primary()
         while True:
             if self.take("."):
