@@ -41,6 +41,8 @@ COMMANDS = [
     (["explain", "rejected.asm"], None, None),
     (["new", "new.vm", "--area", "512"], None, "new.vm"),
     (["new", "file.vm"], None, None),
+    (["copy", "file.vm", "new.vm"], None, "new.vm"),
+    (["copy", "file.vm", "text.asm"], None, None),
     (["run", "image", "file.vm", "script"], None, "file.vm"),
     (["run", "-", "file.vm", "script"], "image", "file.vm"),
     (["run", "image", "file.vm", "-"], "script", "file.vm"),
@@ -54,6 +56,7 @@ COMMANDS = [
     (["get", "file.vm", "1", "16"], None, None),
     (["dump", "file.vm", "--chunks"], None, None),
     (["dump", "text.asm"], None, None),
+    (["diff", "file.vm", "file.vm"], None, None),
     (["map", "file.vm"], None, None),
     (["help"], None, None),
     (["run", "--help"], None, None),
@@ -244,8 +247,9 @@ def try_files(folder, kept):
     names = sorted(os.listdir(folder))
     for path in there + missing:
         tries = [(["dump", path], "read"), (["map", path], "read"), (["run", "image", path, "script"], "read")]
+        tries += [(["copy", path, "new.vm"], "read"), (["diff", path, "file.vm"], "read"), (["diff", "file.vm", path], "read")]
         if path in there:
-            tries.append((["new", path], "write"))
+            tries += [(["new", path], "write"), (["copy", "file.vm", path], "write")]
         if path in ("a folder", "a folder/", "ring", "socket", "/dev/full", ".", "missing/file", "text.asm/file", "", "x" * 300):
             tries.append((["asm", "text.asm", path], "write"))
         if path in ("a folder", "ring", "dangling", "socket", "missing", "", "x" * 300):

@@ -182,6 +182,16 @@ def put(run: Run) -> None:
         run.geos("put.vm", "put", run.path("put.vm"), str(1 + n % 2), "16", given=content)
 
 
+def copy(run: Run) -> None:
+    """A file is copied to areas of several sizes."""
+    run.new("file.vm", 4096)
+    run.call("file.vm", "call make 64\nsave\ncall poke 0 7 @1\nupdate\n")
+    for n, area in enumerate((512, 1024, 65536, 1 << 20)):
+        for option in ([], ["--saved"]):
+            name = f"copy{n}{'saved' if option else ''}.vm"
+            run.geos(name, "copy", run.path("file.vm"), run.path(name), "--area", str(area), *option)
+
+
 def asm(run: Run) -> None:
     """Images are made and replaced."""
     for n in range(10):
@@ -283,5 +293,5 @@ def sqlite_wal(run: Run) -> None:
     _sqlite(run, "wal", "full")
 
 
-OF_GEOS = {work.__name__: work for work in (new, script, processes, many, big, put, asm, library)}
+OF_GEOS = {work.__name__: work for work in (new, script, processes, many, big, put, copy, asm, library)}
 CONTROLS = {work.__name__: work for work in (no_sync, replace, sqlite_full, sqlite_extra, sqlite_wal)}

@@ -36,7 +36,10 @@ silent script script run kept.image book.vm -
 silent script script call text
 silent script script
 silent /dev/null book.vm new book.vm
+silent /dev/null book.vm copy book.vm text
+silent /dev/null book.vm copy missing book.vm
 silent /dev/null book.vm dump book.vm
+silent /dev/null book.vm diff missing book.vm
 silent /dev/null book.vm map book.vm
 silent /dev/null book.vm get book.vm 9 16
 silent text book.vm put book.vm 9 16

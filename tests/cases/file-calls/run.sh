@@ -1,6 +1,6 @@
 # The calls of the system by which a command changes files or syncs them, in their order, with offset and length of what is written: a
 # commit writes the area that is not selected, syncs, writes the selector and syncs. What makes no commit writes nothing, and `run` alone
-# opens a file to write. `new`, `asm` and `budget` sync the file and then the folder.
+# opens a file to write. `new`, `copy`, `asm` and `budget` sync the file and then the folder.
 export LC_ALL=C
 case=$(dirname "$(readlink -f "$0")")
 top_folder=$(mktemp -d)
@@ -44,6 +44,8 @@ echo "dump:"
 calls dump file.vm
 echo "map:"
 calls map file.vm
+echo "copy:"
+calls copy file.vm copy.vm
 echo "asm:"
 calls asm "$top/examples/add.asm" image
 echo "asm onto it:"

@@ -17,7 +17,7 @@ FINDING = {
     "file": TEXT, "line": MAYBE_NUMBER, "column": MAYBE_NUMBER, "rule": MAYBE_TEXT, "routine": MAYBE_TEXT, "pc": MAYBE_NUMBER,
     "register": MAYBE_TEXT, "message": TEXT, "cause_line": MAYBE_NUMBER, "cure": MAYBE_TEXT,
 }
-PLACE = {"line": MAYBE_NUMBER, "routine": TEXT, "pc": NUMBER, "text": TEXT}
+PLACE = {"file": MAYBE_TEXT, "line": MAYBE_NUMBER, "routine": TEXT, "pc": NUMBER, "text": TEXT}
 BLOCK = {"directory": TEXT, "handle": NUMBER, "uid": NUMBER, "size": NUMBER}
 CHUNK = {"directory": TEXT, "handle": NUMBER, "size": NUMBER, "bytes": MAYBE_TEXT}
 MEMBERS = {

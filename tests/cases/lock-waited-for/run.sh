@@ -38,6 +38,8 @@ held() {
 
 held 3 on_terminal "$program" dump file.vm
 held 3 on_terminal "$program" run kept.image file.vm get.script
+held 3 on_terminal "$program" copy file.vm copy.vm
+"$program" dump copy.vm
 held 0.3 on_terminal "$program" dump file.vm
 held 3 "$program" dump file.vm 2>said
 echo "status $?, said $(wc -c <said)"

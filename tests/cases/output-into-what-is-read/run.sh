@@ -37,6 +37,8 @@ refused kept.image kept.image list -
 refused /dev/null book.vm dump book.vm
 refused /dev/null book.vm dump link --chunks
 refused /dev/null book.vm map book.vm
+refused /dev/null book.vm diff book.vm book.vm
+refused /dev/null book.vm copy book.vm new.vm
 refused /dev/null book.vm run kept.image book.vm script
 refused /dev/null kept.image run kept.image book.vm script
 refused /dev/null script run kept.image book.vm script

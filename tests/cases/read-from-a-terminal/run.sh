@@ -27,4 +27,4 @@ python3 typed.py 'call add 2 3' terminal "$program" call add.asm
 python3 typed.py 'call add 2 3' file "$program" call add.asm
 cat said
 echo 'call add 2 3' | "$program" call add.asm
-python3 typed.py nothing terminal "$program" call add.asm add 2 3
+python3 typed.py nothing terminal "$program" call add.asm add

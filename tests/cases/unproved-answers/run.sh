@@ -43,6 +43,10 @@ cp "$top/examples/add.tkv" other/deep/add.tkv
 same call "$folder/other/deep/add.tkv" add
 printf 'pub fn f() { x = 1; }\n' >other/deep/bad.tkv
 same check "$folder/other/deep/bad.tkv" --diagnostics
+printf 'call add 2 3 => 5\ncall add 2 3 => 6\n' >tests
+same test other/deep/add.asm script tests
+same test "$folder/other/deep/add.asm" "$folder/tests" tests "$folder/tests"
+same test other/deep/add.asm tests -
 same --no-warnings call other/deep/add.asm add 2 3 --grant output
 same asm other/deep/add.asm -
 same budget other/deep/add.asm

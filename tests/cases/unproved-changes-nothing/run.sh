@@ -17,12 +17,15 @@ cat found
 proves run counter.asm counter.vm counter.script
 cat found
 proves trace counter.asm count --file counter.vm
+proves test counter.asm counter.script --file counter.vm
 proves asm add.asm add.image
 proves asm --all-rows -- add.asm -image
 proves budget add.asm add.least
 proves budget add.asm --in-place
 proves --diagnostics call counter.asm --file counter.vm
+proves copy counter.vm copy.vm
 proves dump counter.vm
+proves diff counter.vm copy.vm
 proves map counter.vm
 GEOS_PROVED=1
 export GEOS_PROVED
