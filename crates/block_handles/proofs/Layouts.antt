@@ -3,7 +3,7 @@ use Rattle.std.proofs.Common.{◌≡◌, ◌≢◌, ℕ, zero, suc, ◌+◌, ◌
 use Rattle.std.proofs.lemmas.List.{length-set, get_or-set_same, get_or-set_other}
 use Rattle.std.proofs.lemmas.Bool.{cases_eq, cases_lt}
 use Rattle.block_handles.specs.Store.{Block, Store, block_at, bytes_in, IsBlock, IsThere, size_of, locks_in, locks_of, place_of, end_of, slot_count}
-use Rattle.block_handles.specs.Change.{with_block, with_place, with_locks, block_with_locks}
+use Rattle.block_handles.specs.Change.{with_block, with_most, with_place, with_locks, block_with_locks}
 use Rattle.block_handles.specs.Layout.{Apart, IsFree, IsFreeBut, IsLaidOut}
 use Rattle.geos_terms.specs.Heap.{IsBlockSize}
 use Rattle.block_handles.specs.View.{IsIndexed}
@@ -47,7 +47,7 @@ pub record Differs (S S' : Store) (i n p : ℕ) : Type 0 where
   pub there : (j : ℕ) → j ≢ i → IsThere S' j → IsThere S j
   pub slots : slot_count S' ≡ slot_count S
   pub spots : length S'.places ≡ length S.places
-  pub len : S'.len ≡ S.len
+  pub len : S'.len.region ≡ S.len.region
 
 pub with_block-differs : (S : Store) (i : ℕ) (b : Option Block) (p : ℕ) → IsLaidOut S → i < 2048
     → Differs S (with_block S i b p) i (length (bytes_in b)) p
@@ -90,12 +90,12 @@ there_small S i laid h = elim (cases_lt i 2048) as (λ _. i < 2048)
     past (b ∷ bs) (suc i) h = past bs i (omega arith)
 
 -- a slot gets a block where nothing else lies
-pub laid-differs : (S S' : Store) (i n p : ℕ) → Differs S S' i n p → IsLaidOut S → p + n ≤ S.len → IsFreeBut S i p (p + n)
+pub laid-differs : (S S' : Store) (i n p : ℕ) → Differs S S' i n p → IsLaidOut S → p + n ≤ S.len.region → IsFreeBut S i p (p + n)
     → (IsThere S' i → IsBlockSize n) → (n ≡ 0 → p ≡ 0) → IsLaidOut S'
 laid-differs S S' i n p d laid fits free legal none = record {
   slots = d.slots ∙ laid.slots;
   spots = d.spots ∙ laid.spots;
-  within = λ j. elim (cases_eq j i) as (λ _. end_of S' j ≤ S'.len) [
+  within = λ j. elim (cases_eq j i) as (λ _. end_of S' j ≤ S'.len.region) [
     | inl e ↦ omega (arith, d.len, ap (size_of S') e, ap (place_of S') e, d.size, d.place)
     | inr ne ↦ omega (arith, d.len, d.sizes j ne, d.places j ne, laid.within j)
   ];
@@ -131,6 +131,17 @@ laid-differs S S' i n p d laid fits free legal none = record {
     both j k nj nk (inl h) = inl (omega (arith, h, d.sizes j nj, d.places j nj, d.places k nk))
     both j k nj nk (inr h) = inr (omega (arith, h, d.sizes k nk, d.places j nj, d.places k nk))
 
+-- a limit moves no block
+pub laid-most : (S : Store) (most : ℕ) → IsLaidOut S → IsLaidOut (with_most S most)
+laid-most S most laid = record {
+  slots = laid.slots;
+  spots = laid.spots;
+  within = laid.within;
+  apart = laid.apart;
+  sized = laid.sized;
+  none = laid.none;
+}
+
 -- a block leaves
 pub laid-gone : (S : Store) (i : ℕ) → IsLaidOut S → IsThere S i → IsLaidOut (with_block S i None 0)
 laid-gone S i laid there =
@@ -161,7 +172,7 @@ pub laid-same : (S S' : Store) → SameShape S S' → IsLaidOut S → IsLaidOut 
 laid-same S S' d laid = record {
   slots = d.slots ∙ laid.slots;
   spots = ap length d.places ∙ laid.spots;
-  within = λ j. omega (arith, d.len, same-ends S S' d j, laid.within j);
+  within = λ j. omega (arith, ap (λ l. l.region) d.len, same-ends S S' d j, laid.within j);
   apart = λ i j n. moved i j (laid.apart i j n);
   sized = λ j h. subst IsBlockSize (sym (d.sizes j)) (laid.sized j (d.there j h));
   none = λ j z. same-places S S' d j ∙ laid.none j (sym (d.sizes j) ∙ z);
@@ -180,7 +191,7 @@ free-same S S' d a b free j = moved (free j)
 
 pub indexed-same : (S S' : Store) (index : List (Option ℕ)) → SameShape S S' → IsIndexed S index → IsIndexed S' index
 indexed-same S S' index d h = record {
-  long = h.long ∙ ap (λ n. n / 64 + 1) (sym d.len);
+  long = h.long ∙ ap (λ l. l.region / 64 + 1) (sym d.len);
   found = λ j some. ap (λ p. slice_index_or index (p / 64) None) (same-places S S' d j) ∙ h.found j (omega (arith, some, d.sizes j));
   real = λ g j is. let r = h.real g j is in (omega (arith, r.0, d.sizes j), ap (λ p. p / 64) (same-places S S' d j) ∙ r.1);
 }

@@ -27,7 +27,7 @@ pub record IsPackingDown (old now : Store) (from until at scan : ℕ) : Type 0 w
   pub start : from ≤ at
   pub free : at ≤ scan
   pub more : scan ≤ until
-  pub inside : until ≤ now.len
+  pub inside : until ≤ now.len.region
   pub blocks : now.blocks ≡ old.blocks
   pub len : now.len ≡ old.len
   pub laid : IsLaidOut now
@@ -156,7 +156,7 @@ pub record IsPackingUp (old now : Store) (from until at scan : ℕ) : Type 0 whe
   pub start : from ≤ scan
   pub free : scan ≤ at
   pub more : at ≤ until
-  pub inside : until ≤ now.len
+  pub inside : until ≤ now.len.region
   pub blocks : now.blocks ≡ old.blocks
   pub len : now.len ≡ old.len
   pub laid : IsLaidOut now

@@ -13,7 +13,7 @@ use Rattle.block_handles.proofs.Passing.{only_same, sum_zero, passed, edge_behin
 -- a stretch begins at `from`; all blocks below `scan` are seen
 pub record HasPassed (S : Store) (but from scan taken : ℕ) : Type 0 where
   pub ordered : from + taken ≤ scan
-  pub inside : scan ≤ S.len
+  pub inside : scan ≤ S.len.region
   pub taken_is : taken ≡ sum_in S from scan (unlocked_size S but)
   pub begins : IsEdge S from
   pub edge : IsEdge S scan
@@ -60,7 +60,7 @@ module _ (S : Store) (laid : IsLaidOut S) (but : ℕ) where
       by_low (inl q) = inl q
       by_low (inr q) = by_high q (high j)
 
-  pub pass-init : (after : ℕ) → IsEdge S after → after ≤ S.len → HasPassed S but after after 0
+  pub pass-init : (after : ℕ) → IsEdge S after → after ≤ S.len.region → HasPassed S but after after 0
   pass-init after edge inside = record {
     ordered = omega arith;
     inside = inside;
@@ -71,7 +71,7 @@ module _ (S : Store) (laid : IsLaidOut S) (but : ℕ) where
     locks = λ j h. edge j;
   }
 
-  module _ (from scan taken x : ℕ) (w : HasPassed S but from scan taken) (first : IsFirst S scan S.len x) where
+  module _ (from scan taken x : ℕ) (w : HasPassed S but from scan taken) (first : IsFirst S scan S.len.region x) where
     low : from ≤ scan
     low = omega (arith, w.ordered)
 
@@ -88,10 +88,10 @@ module _ (S : Store) (laid : IsLaidOut S) (but : ℕ) where
 
         by : (end_of S j ≤ from) ⊎ (scan ≤ place_of S j) → (end_of S j ≤ from) ⊎ (end_of S x ≤ place_of S j)
         by (inl q) = inl q
-        by (inr q) = by_passed q (passed S laid scan S.len x first w.edge j ne)
+        by (inr q) = by_passed q (passed S laid scan S.len.region x first w.edge j ne)
 
     unlocked_more : sum_in S from (end_of S x) (unlocked_size S but) ≡ sum_in S from scan (unlocked_size S but) + unlocked_size S but x
-    unlocked_more = sum_more S laid scan S.len x first w.edge from (unlocked_size S but) low
+    unlocked_more = sum_more S laid scan S.len.region x first w.edge from (unlocked_size S but) low
 
     pub pass-own : x ≡ but → HasPassed S but from (end_of S x) taken
     pass-own e = record {
@@ -99,7 +99,7 @@ module _ (S : Store) (laid : IsLaidOut S) (but : ℕ) where
       inside = laid.within x;
       taken_is = omega (arith, w.taken_is, unlocked_more, unlocked-but S but x e);
       begins = w.begins;
-      edge = edge_behind S laid scan S.len x first w.edge;
+      edge = edge_behind S laid scan S.len.region x first w.edge;
       locks = λ j h. rest j h (λ z. h.0 (z ∙ e));
     }
 
@@ -109,15 +109,15 @@ module _ (S : Store) (laid : IsLaidOut S) (but : ℕ) where
       inside = laid.within x;
       taken_is = omega (arith, w.taken_is, unlocked_more, unlocked-other S but x ne none);
       begins = w.begins;
-      edge = edge_behind S laid scan S.len x first w.edge;
+      edge = edge_behind S laid scan S.len.region x first w.edge;
       locks = λ j h. rest j h (λ z. absurd (omega (arith, h.1, ap (locks_of S) z, none)));
     }
 
     pub pass-locked : HasPassed S but (end_of S x) (end_of S x) 0
-    pass-locked = pass-init (end_of S x) (edge_behind S laid scan S.len x first w.edge) (laid.within x)
+    pass-locked = pass-init (end_of S x) (edge_behind S laid scan S.len.region x first w.edge) (laid.within x)
 
     pub before_same : sum_in S from (place_of S x) (unlocked_size S but) ≡ sum_in S from scan (unlocked_size S but)
-    before_same = sum_same S laid scan S.len x first w.edge from (unlocked_size S but) low
+    before_same = sum_same S laid scan S.len.region x first w.edge from (unlocked_size S but) low
 
     -- the stretch that a locked block ends
     pub roomy-before : (room : ℕ) → room ≡ place_of S x - (from + taken) → IsRoomy S but from (place_of S x) room
@@ -130,7 +130,7 @@ module _ (S : Store) (laid : IsLaidOut S) (but : ℕ) where
       where
         edge_at : IsEdge S (place_of S x)
         edge_at j = elim (cases_eq j x) as (λ _. (end_of S j ≤ place_of S x) ⊎ (place_of S x ≤ place_of S j))
-            [ inl e ↦ inr (omega (arith, ap (place_of S) e)) | inr nx ↦ near j (passed S laid scan S.len x first w.edge j nx) ]
+            [ inl e ↦ inr (omega (arith, ap (place_of S) e)) | inr nx ↦ near j (passed S laid scan S.len.region x first w.edge j nx) ]
           where
             near : (j : ℕ) → (end_of S j ≤ scan) ⊎ (end_of S x ≤ place_of S j) → (end_of S j ≤ place_of S x) ⊎ (place_of S x ≤ place_of S j)
             near j (inl q) = inl (omega (arith, q, first.high))
@@ -145,7 +145,7 @@ module _ (S : Store) (laid : IsLaidOut S) (but : ℕ) where
             near j (inr q) = inr (omega (arith, q))
 
   -- no block begins behind those that are passed
-  module _ (from scan taken : ℕ) (w : HasPassed S but from scan taken) (none : BeginsNone S scan S.len) where
+  module _ (from scan taken : ℕ) (w : HasPassed S but from scan taken) (none : BeginsNone S scan S.len.region) where
     pub ended : (j : ℕ) → end_of S j ≤ scan
     ended j = by (w.edge j)
       where
@@ -163,15 +163,15 @@ module _ (S : Store) (laid : IsLaidOut S) (but : ℕ) where
         by (inl q) = q
         by (inr q) = absurd (omega (arith, q, ended j, some_size S laid j h.1))
 
-    pub last_same : sum_in S from S.len (unlocked_size S but) ≡ sum_in S from scan (unlocked_size S but)
-    last_same = total-same (slot_count S) (only_in S from S.len (unlocked_size S but)) (only_in S from scan (unlocked_size S but))
-        (λ j. only_same S S from S.len from scan (unlocked_size S but) (unlocked_size S but) j refl (λ r. (r.0, ended j)) (λ r. (r.0, laid.within j)))
+    pub last_same : sum_in S from S.len.region (unlocked_size S but) ≡ sum_in S from scan (unlocked_size S but)
+    last_same = total-same (slot_count S) (only_in S from S.len.region (unlocked_size S but)) (only_in S from scan (unlocked_size S but))
+        (λ j. only_same S S from S.len.region from scan (unlocked_size S but) (unlocked_size S but) j refl (λ r. (r.0, ended j)) (λ r. (r.0, laid.within j)))
 
     -- the last stretch
-    pub roomy-last : (room : ℕ) → room ≡ S.len - (from + taken) → IsRoomy S but from S.len room
+    pub roomy-last : (room : ℕ) → room ≡ S.len.region - (from + taken) → IsRoomy S but from S.len.region room
     roomy-last room e = record {
       ordered = omega (arith, w.ordered, w.inside);
       inside = omega arith;
-      packs = packable from S.len w.begins (λ j. inl (laid.within j)) (λ j h. inl (locked_before j h));
+      packs = packable from S.len.region w.begins (λ j. inl (laid.within j)) (λ j h. inl (locked_before j h));
       fits = omega (arith, last_same, w.taken_is, e, w.ordered, w.inside);
     }

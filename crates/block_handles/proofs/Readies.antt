@@ -4,8 +4,8 @@ use Rattle.std.proofs.lemmas.List.{length-replicate, get_or-set_same, get_or-set
 use Rattle.std.proofs.lemmas.Nat.Bits.{bit_at-lt}
 use Rattle.std.proofs.lemmas.Bool.{cases_eq}
 use Rattle.block_handles.specs.declared.room.Gap.{Gap}
-use Rattle.block_handles.specs.Store.{Block, Store, block_at, bytes_in, bytes_of, IsBlock, IsThere, locks_in, locks_of, size_of, place_of, end_of}
-use Rattle.block_handles.specs.Change.{LockedStay, with_block, new_block, grown_block, with_locks, after_write, with_bytes}
+use Rattle.block_handles.specs.Store.{Block, Store, block_at, bytes_in, bytes_of, IsBlock, IsThere, locks_in, locks_of, size_of, place_of, end_of, region_len}
+use Rattle.block_handles.specs.Change.{LockedStay, with_block, with_most, new_block, grown_block, with_locks, after_write, with_bytes}
 use Rattle.block_handles.specs.Calls.{Grows, Makes}
 use Rattle.block_handles.specs.Gap.{IsGap, IsGapBut, IsReady, MakesRoom}
 use Rattle.block_handles.specs.Joined.{Joins, Reaches}
@@ -14,8 +14,8 @@ use Rattle.block_handles.specs.Used.{IsUsed, IsFreeCount, IsKept, IsLockSum}
 use Rattle.block_handles.specs.Layout.{Apart, IsEmpty, IsLaidOut, IsFree, IsFreeBut}
 use Rattle.block_handles.specs.Packing.{IsEdge}
 use Rattle.block_handles.specs.Stretch.{all_sizes}
-use Rattle.block_handles.proofs.Layouts.{Differs, with_block-differs, there_small, there_of_size, locks_of_none, size_of_none, with_locks-shape, SameShape, laid-same, free-same}
-use Rattle.block_handles.proofs.Counting.{sizes-fit, sizes-same, sizes-with_block}
+use Rattle.block_handles.proofs.Layouts.{Differs, with_block-differs, there_small, there_of_size, locks_of_none, size_of_none, with_locks-shape, SameShape, laid-most, laid-same, free-same}
+use Rattle.block_handles.proofs.Counting.{sizes-same, sizes-with_block}
 use Rattle.block_handles.proofs.LockSums.{after_write-locks, lock-sum-same, lock-sum-with_block, with_bytes-locks}
 use Rattle.block_handles.proofs.Packs.{size_along}
 use Rattle.block_handles.proofs.Writes.{after_write-shape, with_bytes-shape}
@@ -26,7 +26,7 @@ ready-empty S len e = record {
   laid = e.laid;
   room = record {
     ordered = omega arith;
-    inside = omega (arith, e.long);
+    inside = omega (arith, ap (λ l. l.region) e.long);
     free = λ j. let z : size_of S j ≡ 0 = ap (λ b. length (bytes_in b)) (e.none j) in inl (omega (arith, z, e.laid.none j z));
   };
 }
@@ -44,7 +44,7 @@ ready-same S S' gap shape r = record {
   laid = laid-same S S' shape r.laid;
   room = record {
     ordered = r.room.ordered;
-    inside = omega (arith, r.room.inside, shape.len);
+    inside = omega (arith, r.room.inside, ap (λ l. l.region) shape.len);
     free =
         free-same S S' shape gap.at gap.end r.room.free;
   };
@@ -60,12 +60,20 @@ used-same S S' words back on u = record {
       λ j small is h. u.none j small is (back j h);
 }
 
+-- as many bytes, and the same limit
+count-along : (S S' : Store) (free : ℕ) → all_sizes S' ≡ all_sizes S → S'.len ≡ S.len → IsFreeCount S free → IsFreeCount S' free
+count-along S S' free sizes len count = record {
+  counted = omega (arith, count.counted, sizes, ap (λ l. l.most) len);
+  within = omega (arith, count.within, ap (λ l. l.most) len, ap (λ l. l.region) len);
+  short = omega (arith, count.short, ap (λ l. l.region) len);
+}
+
 pub kept-same : {free held now : ℕ} (S S' : Store) (gap : Gap) (words : List ℕ) → SameShape S S' → IsLockSum S' now
     → IsKept S gap words free held → IsKept S' gap words free now
-kept-same S S' gap words shape locked k = record {
+kept-same {free} S S' gap words shape locked k = record {
   ready = ready-same S S' gap shape k.ready;
   used = used-same S S' words shape.there (λ j h. there_of_size S' j (omega (arith, shape.sizes j, (k.ready.laid.sized j h).0))) k.used;
-  count = record { counted = omega (arith, k.count.counted, sizes-same S S' shape, shape.len); short = omega (arith, k.count.short, shape.len) };
+  count = count-along S S' free (sizes-same S S' shape) shape.len k.count;
   locked = locked;
 }
 
@@ -165,10 +173,12 @@ module _ (old mid new : Store) (slot size : ℕ) (gap : Gap) (m : MakesRoom old 
 
 -- bytes that a block takes of those that are free
 pub count-taken : (S S' : Store) (free more : ℕ) → IsFreeCount S free → all_sizes S' ≡ all_sizes S + more → S'.len ≡ S.len
-    → IsLaidOut S' → (more ≤ free) × IsFreeCount S' (free - more)
-count-taken S S' free more count sizes len laid =
-    let fits : more ≤ free = omega (arith, count.counted, sizes, len, sizes-fit S' laid) in
-    (fits, record { counted = omega (arith, count.counted, sizes, len, fits); short = omega (arith, count.short, len) })
+    → more ≤ free → IsFreeCount S' (free - more)
+count-taken S S' free more count sizes len fits = record {
+  counted = omega (arith, count.counted, sizes, ap (λ l. l.most) len, fits);
+  within = omega (arith, count.within, ap (λ l. l.most) len, ap (λ l. l.region) len);
+  short = omega (arith, count.short, ap (λ l. l.region) len);
+}
 
 -- the gap behind a block that has moved into it
 ready-grown_block : (old mid new : Store) (slot size : ℕ) (gap : Gap) → MakesRoom old mid slot size gap → IsThere old slot
@@ -178,7 +188,7 @@ ready-grown_block old mid new slot size gap m was-there was-more e laid = record
   laid = laid;
   room = record {
     ordered = m.room;
-    inside = omega (arith, m.inside, ap (λ s. s.len) e);
+    inside = omega (arith, m.inside, ap (λ s. s.len.region) e);
     free =
         λ j. subst (λ s. (end_of s j ≤ gap.at + size) ⊎ (gap.end ≤ place_of s j)) (sym e) (each j);
   };
@@ -212,19 +222,19 @@ ready-grown_block old mid new slot size gap m was-there was-more e laid = record
 
 -- a block that grows takes its bytes of those that are free
 module _ (old mid new : Store) (slot size free more : ℕ) (gap : Gap) (m : MakesRoom old mid slot size gap)
-    (there : IsThere old slot) (grows : size_of old slot ≤ size) (by : more ≡ size - size_of old slot)
+    (there : IsThere old slot) (grows : size_of old slot ≤ size) (by : more ≡ size - size_of old slot) (fits : more ≤ free)
     (laid_old : IsLaidOut old) (count : IsFreeCount old free)
     (e : new ≡ with_block mid slot (grown_block mid slot size) gap.at) (laid : IsLaidOut new) where
   small : slot < 2048
   small = there_small old slot laid_old there
 
-  pub grown-taken : (more ≤ free) × IsFreeCount new (free - more)
+  grown-taken : IsFreeCount new (free - more)
   grown-taken =
       let long : length (bytes_in (grown_block mid slot size)) ≡ size = length-grown mid slot size
       (omega (arith, grows, size_along old mid m.blocks slot)) in
       count-taken old new free more count
       (omega (arith, by, grows, long, sizes-with_block old mid new slot gap.at (grown_block mid slot size) m.blocks m.laid small e))
-      (ap (λ s. s.len) e ∙ m.len) laid
+      (ap (λ s. s.len) e ∙ m.len) fits
 
   pub kept-grown_block : (words : List ℕ) (held : ℕ) → IsUsed old words → IsLockSum old held
       → IsKept new (record { at = gap.at + size; end = gap.end }) words (free - more) held
@@ -235,7 +245,7 @@ module _ (old mid new : Store) (slot size free more : ℕ) (gap : Gap) (m : Make
         used = used-with_block mid new words words slot (grown_block mid slot size) gap.at 1 small m.laid e
             (record { here = bit; others = λ j ne. refl; long = refl }) (λ _. tt) (λ z. absurd (omega (arith, z)))
             (used-blocks old mid words m.blocks u);
-        count = grown-taken.1;
+        count = grown-taken;
         locked = lock-sum-with_block old mid new slot gap.at held (grown_block mid slot size) m.blocks m.laid small e
             (ap (λ bs. locks_in (slice_index_or bs slot None)) m.blocks) locked;
       }
@@ -248,9 +258,9 @@ kept-locks {free} {held} {now} S S' gap words slot n h e locked k =
 
 -- a new block takes its bytes of those that are free
 pub made-taken : (old mid new : Store) (slot size free : ℕ) (gap : Gap) → MakesRoom old mid slot size gap → slot < 2048
-    → (IsThere old slot → ⊥) → IsFreeCount old free → new ≡ with_block mid slot (new_block size) gap.at → IsLaidOut new
-    → (size ≤ free) × IsFreeCount new (free - size)
-made-taken old mid new slot size free gap m small absent count e laid =
+    → (IsThere old slot → ⊥) → IsFreeCount old free → size ≤ free → new ≡ with_block mid slot (new_block size) gap.at → IsLaidOut new
+    → IsFreeCount new (free - size)
+made-taken old mid new slot size free gap m small absent count fits e laid =
     count-taken old new free size count
     (omega (
       arith,
@@ -258,7 +268,7 @@ made-taken old mid new slot size free gap m small absent count e laid =
       length-replicate {A = ℕ} size 0,
       sizes-with_block old mid new slot
           gap.at (new_block size) m.blocks m.laid small e,
-    )) (ap (λ s. s.len) e ∙ m.len) laid
+    )) (ap (λ s. s.len) e ∙ m.len) fits
 
 -- the gap beside a block that was made in it
 pub kept-made : (old mid new : Store) (slot size free held : ℕ) (gap : Gap) (words words' : List ℕ)
@@ -270,7 +280,7 @@ kept-made old mid new slot size free held gap words words' m small absent u lock
     laid = laid;
     room = record {
       ordered = m.room;
-      inside = omega (arith, m.inside, ap (λ s. s.len) e);
+      inside = omega (arith, m.inside, ap (λ s. s.len.region) e);
       free =
           λ j. subst (λ s. (end_of s j ≤ gap.at + size) ⊎ (gap.end ≤ place_of s j)) (sym e) (each j);
     };
@@ -401,11 +411,12 @@ module _ (S : Store) (slot : ℕ) (laid : IsLaidOut S) (there : IsThere S slot) 
       ep,
       ee,
       count.counted,
-      ap (λ s. s.len) e,
+      ap (λ s. s.len.most) e,
       sizes-with_block S S S' slot 0 None refl laid
           (there_small S slot laid there) e,
     );
-    short = omega (arith, count.short, ap (λ s. s.len) e);
+    within = omega (arith, count.within, ap (λ s. s.len.most) e, ap (λ s. s.len.region) e);
+    short = omega (arith, count.short, ap (λ s. s.len.region) e);
   }
 
   pub kept-freed : (S' : Store) (gap gap' : Gap) (words words' : List ℕ) (free held place end : ℕ) → S' ≡ with_block S slot None 0
@@ -418,3 +429,16 @@ module _ (S : Store) (slot : ℕ) (laid : IsLaidOut S) (there : IsThere S slot) 
     count = count-freed S' free place end e ep ee k.count;
     locked = lock-sum-with_block S S S' slot 0 held None refl laid (there_small S slot laid there) e (sym unlocked) k.locked;
   }
+
+-- another limit, which is not below what blocks have
+pub kept-limited : (S : Store) (gap : Gap) (words : List ℕ) (free held more : ℕ) → IsKept S gap words free held
+    → more + all_sizes S ≤ region_len S → IsKept (with_most S (more + all_sizes S)) gap words more held
+kept-limited S gap words free held more k fits = record {
+  ready = record {
+    laid = laid-most S (more + all_sizes S) k.ready.laid;
+    room = record { ordered = k.ready.room.ordered; inside = k.ready.room.inside; free = k.ready.room.free };
+  };
+  used = record { long = k.used.long; there = k.used.there; none = k.used.none };
+  count = record { counted = refl; within = fits; short = k.count.short };
+  locked = record { added = k.locked.added; each = k.locked.each };
+}

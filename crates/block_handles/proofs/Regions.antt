@@ -3,6 +3,7 @@ use Rattle.std.proofs.Common.{◌≡◌, ℕ, zero, suc, List, [], ◌∷◌, le
 use Rattle.lmem_raw.specs.Bytes.{part, with_part}
 use Rattle.block_handles.specs.declared.table.Entry.{Entry}
 use Rattle.block_handles.specs.Store.{bytes_in, bytes_of, place_of, size_of}
+use Rattle.block_handles.specs.Change.{with_most}
 use Rattle.block_handles.specs.Layout.{IsRegion}
 use Rattle.block_handles.specs.View.{block_in, store_in, place_in, Lies}
 use Rattle.block_handles.proofs.Views.{at_slot, place_slot, length-part}
@@ -14,9 +15,9 @@ entry-part region None lies = refl
 entry-part region (Some e) lies = ap (part region e.place) (sym (length-part region e.place e.size lies))
 
 -- the region of a view
-pub region-of : (region : List ℕ) (table : List (Option Entry)) → ((slot : ℕ) → Lies region (slice_index_or table slot None))
-    → IsRegion (store_in region table) region
-region-of region table lies = record { long = refl; blocks = blocks }
+pub region-of : (most : ℕ) (region : List ℕ) (table : List (Option Entry)) → ((slot : ℕ) → Lies region (slice_index_or table slot None))
+    → IsRegion (with_most (store_in region table) most) region
+region-of most region table lies = record { long = refl; blocks = blocks }
   where
     blocks : (slot : ℕ) → bytes_of (store_in region table) slot ≡ part region (place_of (store_in region table) slot)
         (size_of (store_in region table) slot)

@@ -116,7 +116,7 @@ module _ (S : Store) (laid : IsLaidOut S) (slot size from until room : ℕ) (r :
             stay = moves-stay S new slot from until from at m;
             own = own-place (m.moved slot);
             room = omega (arith, a, b, is, sums, r.fits, enough);
-            inside = omega (arith, b, r.inside, m.len);
+            inside = omega (arith, b, r.inside, ap (λ l. l.region) m.len);
             free = λ j ne. rw (a, b) (free j);
           }
         where
@@ -146,7 +146,7 @@ module _ (S : Store) (laid : IsLaidOut S) (slot size from until room : ℕ) (r :
       unlocked j ne (inl e) = absurd (ne e)
       unlocked j ne (inr z) = z
 
-      pub below-range : (from ≤ place_of S slot) × (place_of S slot ≤ S.len)
+      pub below-range : (from ≤ place_of S slot) × (place_of S slot ≤ S.len.region)
       below-range = (low, omega (arith, high, r.inside))
 
       pub below-pack : CanPack S from (place_of S slot)
@@ -173,8 +173,8 @@ module _ (S : Store) (laid : IsLaidOut S) (slot size from until room : ℕ) (r :
         sizes : (j : ℕ) → size_of mid j ≡ size_of S j
         sizes = size_along S mid m.blocks
 
-        pub above-range : (end_of S slot ≤ until) × (until ≤ mid.len)
-        above-range = (ends, omega (arith, r.inside, m.len))
+        pub above-range : (end_of S slot ≤ until) × (until ≤ mid.len.region)
+        above-range = (ends, omega (arith, r.inside, ap (λ l. l.region) m.len))
 
         pub above-pack : CanPack mid (end_of S slot) until
         above-pack j = elim (cases_eq j slot) as
@@ -320,6 +320,6 @@ module _ (S : Store) (laid : IsLaidOut S) (slot size from until room : ℕ) (r :
                     (omega (arith, locked, locks_along S mid m.blocks j)) ∙ moves-stay S mid slot from (place_of S slot) from at m j ne locked;
                 own = own-new;
                 room = omega (arith, a, b, is, goes, above-sum, both, r.fits, enough);
-                inside = omega (arith, b, within.1, r.inside, n.len, m.len);
+                inside = omega (arith, b, within.1, r.inside, ap (λ l. l.region) n.len, ap (λ l. l.region) m.len);
                 free = λ j ne. rw (a, b) (clear j ne);
               }

@@ -5,7 +5,7 @@ use Rattle.std.proofs.Math.Seq.{take-add}
 use Rattle.lmem_raw.specs.Bytes.{part, with_part}
 use Rattle.lmem_raw.proofs.Parts.{length-with_part, part-same, part-before, part-behind}
 use Rattle.block_handles.specs.declared.table.Entry.{Entry}
-use Rattle.block_handles.specs.Store.{block_at, bytes_in, bytes_of, IsBlock, IsThere, size_of, place_of, end_of}
+use Rattle.block_handles.specs.Store.{block_at, bytes_in, bytes_of, IsBlock, IsThere, size_of, place_of, end_of, whole}
 use Rattle.block_handles.specs.Change.{with_block}
 use Rattle.block_handles.specs.Rows.{IsEntry}
 use Rattle.block_handles.specs.View.{block_in, store_in, place_in, Lies}
@@ -86,7 +86,7 @@ store-set region region' table i o len same = λ k. record {
   blocks = blocks-set region region' table i o same k;
   places =
       map-set place_in table i o k;
-  len = len k;
+  len = whole (len k);
 }
 
 -- a part in two

@@ -59,12 +59,12 @@ module _ (S : Store) (laid : IsLaidOut S) (but : ℕ) where
     enough = omega (arith, ap (λ s. s.room) q.0, q.1, fits);
   }
 
-  module _ (from scan taken x : ℕ) (b : Stretch) (w : HasWalked S but from scan taken b) (first : IsFirst S scan S.len x) where
+  module _ (from scan taken x : ℕ) (b : Stretch) (w : HasWalked S but from scan taken b) (first : IsFirst S scan S.len.region x) where
     ones_more : sum_in S 0 (end_of S x) (locked_one S but) ≡ sum_in S 0 scan (locked_one S but) + locked_one S but x
-    ones_more = sum_more S laid scan S.len x first w.passed.edge 0 (locked_one S but) (omega arith)
+    ones_more = sum_more S laid scan S.len.region x first w.passed.edge 0 (locked_one S but) (omega arith)
 
     sizes_more : sum_in S 0 (end_of S x) (other_size S but) ≡ sum_in S 0 scan (other_size S but) + other_size S but x
-    sizes_more = sum_more S laid scan S.len x first w.passed.edge 0 (other_size S but) (omega arith)
+    sizes_more = sum_more S laid scan S.len.region x first w.passed.edge 0 (other_size S but) (omega arith)
 
     -- the block itself is passed over
     pub walk-own : x ≡ but → HasWalked S but from (end_of S x) taken b
@@ -149,7 +149,7 @@ module _ (S : Store) (laid : IsLaidOut S) (but : ℕ) where
             at z l e le (inl q) = absurd (omega (arith, q, e, ea, s.ordered, some_size S laid z l.1))
             at z l e le (inr q) = absurd (omega (arith, q, e, le, first.there))
 
-            by : (c ≡ S.len) ⊎ ((slot : ℕ) × IsOtherLocked S but slot × (place_of S slot ≡ c)) → c ≤ place_of S x → c ≡ place_of S x
+            by : (c ≡ S.len.region) ⊎ ((slot : ℕ) × IsOtherLocked S but slot × (place_of S slot ≡ c)) → c ≤ place_of S x → c ≡ place_of S x
             by (inl e) le = absurd (omega (arith, e, le, first.low))
             by (inr (z, l, e)) le = elim (cases_eq z x) as (λ _. c ≡ place_of S x) [
               | inl q ↦ sym e
@@ -158,10 +158,10 @@ module _ (S : Store) (laid : IsLaidOut S) (but : ℕ) where
             ]
 
   -- all blocks are passed
-  pub walk-done : (from scan taken : ℕ) (b b' : Stretch) → HasWalked S but from scan taken b → BeginsNone S scan S.len
-      → IsWider b from S.len taken b' → IsRoomiest S but b'.from b'.until b'.room
+  pub walk-done : (from scan taken : ℕ) (b b' : Stretch) → HasWalked S but from scan taken b → BeginsNone S scan S.len.region
+      → IsWider b from S.len.region taken b' → IsRoomiest S but b'.from b'.until b'.room
   walk-done from scan taken b b' w none wider =
-      let good : IsBetter b b' from S.len taken = better b b' from S.len taken w.found (omega (arith, w.passed.ordered, w.passed.inside))
+      let good : IsBetter b b' from S.len.region taken = better b b' from S.len.region taken w.found (omega (arith, w.passed.ordered, w.passed.inside))
       (roomy-last S laid but from scan taken w.passed none) wider in
       let low = ended S laid but from scan taken w.passed none in
       let ones : sum_in S 0 scan (locked_one S but) ≡ other_locked S but = sum_all S 0 scan (locked_one S but) (λ j. inl (omega arith, low j)) in
@@ -175,7 +175,7 @@ module _ (S : Store) (laid : IsLaidOut S) (but : ℕ) where
           | inl lt ↦ omega (arith, w.most a c s lt, good.more)
           | inr ge ↦
               let ea : a ≡ from = starts a c s ge in
-              let ec : c ≡ S.len = stops a c s ea in
+              let ec : c ≡ S.len.region = stops a c s ea in
               rw (ea, ec) (omega (arith, last_same S laid but from scan taken w.passed none, w.passed.taken_is, good.enough))
         ];
         crowd = rw (← ones, ← sizes) (omega (arith, w.crowd, good.enough, mul-le-mul_left (sum_in S 0 scan (locked_one S but)) good.more));
@@ -191,9 +191,9 @@ module _ (S : Store) (laid : IsLaidOut S) (but : ℕ) where
           by (inl z) = omega (arith, z, ge)
           by (inr (y, l, e)) = omega (arith, before y l, e, ge)
 
-      stops : (a c : ℕ) → IsStretch S but a c → a ≡ from → c ≡ S.len
+      stops : (a c : ℕ) → IsStretch S but a c → a ≡ from → c ≡ S.len.region
       stops a c s ea = by s.ends
         where
-          by : (c ≡ S.len) ⊎ ((slot : ℕ) × IsOtherLocked S but slot × (place_of S slot ≡ c)) → c ≡ S.len
+          by : (c ≡ S.len.region) ⊎ ((slot : ℕ) × IsOtherLocked S but slot × (place_of S slot ≡ c)) → c ≡ S.len.region
           by (inl e) = e
           by (inr (z, l, e)) = absurd (omega (arith, before z l, e, ea, s.ordered, some_size S laid z l.1))

@@ -7,6 +7,10 @@ use Rattle.block_handles.specs.Store.{Block, Store, bytes_of, size_of, locks_of,
 abbrev pub with_block : Store → ℕ → Option Block → ℕ → Store
 with_block store slot block place = record store { blocks = slice_set store.blocks slot block; places = slice_set store.places slot place }
 
+-- blocks may have this many bytes together
+abbrev pub with_most : Store → ℕ → Store
+with_most store most = record store { len = record store.len { most = most } }
+
 -- a block lies elsewhere
 abbrev pub with_place : Store → ℕ → ℕ → Store
 with_place store slot place = record store { places = slice_set store.places slot place }

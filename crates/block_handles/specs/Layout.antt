@@ -2,7 +2,7 @@
 use Rattle.std.specs.Prelude.{◌≡◌, ◌≢◌, ℕ, ◌≤◌, ◌⊎◌, List, length, None}
 use Rattle.lmem_raw.specs.Bytes.{part}
 use Rattle.geos_terms.specs.Heap.{IsBlockSize}
-use Rattle.block_handles.specs.Store.{Store, block_at, IsThere, bytes_of, size_of, place_of, end_of, slot_count}
+use Rattle.block_handles.specs.Store.{Store, block_at, IsThere, bytes_of, size_of, place_of, end_of, slot_count, whole}
 
 -- one block ends before the other begins
 abbrev pub Apart : Store → ℕ → ℕ → Type 0
@@ -20,18 +20,18 @@ IsFreeBut store but from until = (slot : ℕ) → slot ≢ but → (end_of store
 pub record IsLaidOut (store : Store) : Type 0 where
   pub slots : slot_count store ≡ 2048
   pub spots : length store.places ≡ 2048
-  pub within : (slot : ℕ) → end_of store slot ≤ store.len
+  pub within : (slot : ℕ) → end_of store slot ≤ store.len.region
   pub apart : (i j : ℕ) → i ≢ j → Apart store i j
   pub sized : (slot : ℕ) → IsThere store slot → IsBlockSize (size_of store slot)
   pub none : (slot : ℕ) → size_of store slot ≡ 0 → place_of store slot ≡ 0
 
--- a region of this length with no block
+-- a region of this length with no block, and no limit
 pub record IsEmpty (store : Store) (len : ℕ) : Type 0 where
   pub none : (slot : ℕ) → block_at store slot ≡ None
-  pub long : store.len ≡ len
+  pub long : store.len ≡ whole len
   pub laid : IsLaidOut store
 
 -- the bytes in which the blocks lie, each from its place on
 pub record IsRegion (store : Store) (region : List ℕ) : Type 0 where
-  pub long : length region ≡ store.len
+  pub long : length region ≡ store.len.region
   pub blocks : (slot : ℕ) → bytes_of store slot ≡ part region (place_of store slot) (size_of store slot)

@@ -6,11 +6,20 @@ pub record Block : Type 0 where
   pub locks : ℕ
   pub bytes : List ℕ
 
--- the block in each slot, where it lies in the region, 0 for none, and the region's length
+-- how long the region is, and how many bytes all blocks may have together
+pub record Lengths : Type 0 where
+  pub region : ℕ
+  pub most : ℕ
+
+-- blocks may have the whole region
+abbrev pub whole : ℕ → Lengths
+whole n = record { region = n; most = n }
+
+-- the block in each slot, where it lies in the region, 0 for none, the region's length and the limit
 pub record Store : Type 0 where
   pub blocks : List (Option Block)
   pub places : List ℕ
-  pub len : ℕ
+  pub len : Lengths
 
 -- the block in a slot
 abbrev pub block_at : Store → ℕ → Option Block
@@ -61,4 +70,8 @@ slot_count store = length store.blocks
 
 -- the region's length in bytes
 abbrev pub region_len : Store → ℕ
-region_len store = store.len
+region_len store = store.len.region
+
+-- how many bytes all blocks may have together
+abbrev pub most_of : Store → ℕ
+most_of store = store.len.most

@@ -1,6 +1,6 @@
 -- The stretches of the region between locked blocks, and when none of them has room.
 use Rattle.std.specs.Prelude.{◌≡◌, ◌≢◌, ℕ, zero, suc, ◌+◌, ◌*◌, ◌<◌, ◌≤◌, ◌⊎◌, nat_le, nat_eq, ◌&&◌, if◌then◌else◌}
-use Rattle.block_handles.specs.Store.{Store, size_of, locks_of, place_of, end_of, slot_count, region_len}
+use Rattle.block_handles.specs.Store.{Store, size_of, locks_of, place_of, end_of, slot_count, most_of, region_len}
 
 -- f at each number below n, added
 abbrev pub total : ℕ → (ℕ → ℕ) → ℕ
@@ -54,13 +54,26 @@ other_locked store but = total (slot_count store) (locked_one store but)
 abbrev pub other_sizes : Store → ℕ → ℕ
 other_sizes store but = total (slot_count store) (other_size store but)
 
--- the request, once for each stretch, and all other blocks together need more than the region
-abbrev pub IsCrowded : Store → ℕ → ℕ → Type 0
-IsCrowded store but size = region_len store < (other_locked store but + 1) * size + other_sizes store but
+-- the request, once for each stretch, and all other blocks together need more than an amount
+abbrev pub NeedsMore : ℕ → Store → ℕ → ℕ → Type 0
+NeedsMore bytes store but size = bytes < (other_locked store but + 1) * size + other_sizes store but
 
--- a request has no room beside the other blocks
-pub record HasNoRoom (store : Store) (but size : ℕ) : Type 0 where
+-- no stretch of the region has room for a request
+pub record HasNoStretch (store : Store) (but size : ℕ) : Type 0 where
   pub full : IsFull store but size
+  pub crowded : NeedsMore (region_len store) store but size
+
+-- the request, once for each stretch, and all other blocks together need more than blocks may have
+abbrev pub IsCrowded : Store → ℕ → ℕ → Type 0
+IsCrowded store but size = NeedsMore (most_of store) store but size
+
+-- with the request, all blocks together would have more bytes than they may
+abbrev pub IsOver : Store → ℕ → ℕ → Type 0
+IsOver store but size = most_of store < size + other_sizes store but
+
+-- a request has no room beside the other blocks: it is over the limit, or no stretch has room
+pub record HasNoRoom (store : Store) (but size : ℕ) : Type 0 where
+  pub full : IsOver store but size ⊎ IsFull store but size
   pub crowded : IsCrowded store but size
 
 -- the lock count of a block of the VM file, and 0 of one of global memory

@@ -5,7 +5,7 @@ use Rattle.block_handles.specs.declared.room.Gap.{Gap}
 use Rattle.block_handles.specs.Bits.{bit_of}
 use Rattle.block_handles.specs.Gap.{IsReady}
 use Rattle.block_handles.specs.Names.{IsHandle, slot_of}
-use Rattle.block_handles.specs.Store.{Store, IsThere, locks_of, region_len}
+use Rattle.block_handles.specs.Store.{Store, IsThere, locks_of, most_of, region_len}
 use Rattle.block_handles.specs.Stretch.{all_sizes, vm_locks}
 
 -- the bits say which slots are in use
@@ -14,9 +14,10 @@ pub record IsUsed (store : Store) (words : List ℕ) : Type 0 where
   pub there : (slot : ℕ) → slot < 2048 → bit_of words slot ≡ 1 → IsThere store slot
   pub none : (slot : ℕ) → slot < 2048 → bit_of words slot ≡ 0 → IsThere store slot → ⊥
 
--- so many bytes of the region no block has
+-- blocks may have so many bytes more, and never more than the region
 pub record IsFreeCount (store : Store) (free : ℕ) : Type 0 where
-  pub counted : free + all_sizes store ≡ region_len store
+  pub counted : free + all_sizes store ≡ most_of store
+  pub within : most_of store ≤ region_len store
   pub short : region_len store < 2 ^ 32
 
 -- the blocks of the VM file are locked so often, all together, and no block more often than it can be

@@ -1,7 +1,7 @@
 -- The store that a region and a table of entries spell.
 use Rattle.std.specs.Prelude.{◌≡◌, ℕ, ◌+◌, ◌/◌, ◌^◌, ◌<◌, ◌≤◌, List, length, Option, Some, None, map, slice_index_or}
 use Rattle.block_handles.specs.declared.table.Entry.{Entry}
-use Rattle.block_handles.specs.Store.{Block, Store, size_of, place_of}
+use Rattle.block_handles.specs.Store.{Block, Store, size_of, place_of, whole}
 use Rattle.block_handles.specs.Layout.{IsLaidOut}
 use Rattle.lmem_raw.specs.Bytes.{part}
 
@@ -15,9 +15,9 @@ abbrev pub place_in : Option Entry → ℕ
 place_in None = 0
 place_in (Some entry) = entry.place
 
--- the store that a region and a table spell
+-- the store that a region and a table spell, without a limit
 abbrev pub store_in : List ℕ → List (Option Entry) → Store
-store_in region table = record { blocks = map (block_in region) table; places = map place_in table; len = length region }
+store_in region table = record { blocks = map (block_in region) table; places = map place_in table; len = whole (length region) }
 
 -- an entry's block lies in the region
 abbrev pub Lies : List ℕ → Option Entry → Type 0
@@ -26,7 +26,7 @@ Lies region (Some entry) = entry.place + entry.size ≤ length region
 
 -- the index has each block at the granule of 64 bytes in which it begins, and nothing else
 pub record IsIndexed (store : Store) (index : List (Option ℕ)) : Type 0 where
-  pub long : length index ≡ store.len / 64 + 1
+  pub long : length index ≡ store.len.region / 64 + 1
   pub found : (slot : ℕ) → 0 < size_of store slot → slice_index_or index (place_of store slot / 64) None ≡ Some slot
   pub real : (granule slot : ℕ) → slice_index_or index granule None ≡ Some slot → (0 < size_of store slot) × (place_of store slot / 64 ≡ granule)
 

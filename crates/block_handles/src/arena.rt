@@ -18,6 +18,8 @@ pub(crate) struct Arena {
     region: Region,
     table: Table,
     index: Vec<Option<u16>>,
+    /// How many bytes all blocks may have together.
+    most: u32,
 }
 
 impl Model for Arena {
@@ -25,9 +27,10 @@ impl Model for Arena {
 
     ghost Value = { Store };
 
+    ghost use Rattle.block_handles.specs.Change.{with_most};
     ghost use Rattle.block_handles.specs.View.{store_in, IsSound};
 
-    ghost view = { λ a. store_in a.region a.table };
+    ghost view = { λ a. with_most (store_in a.region a.table) a.most };
 
     ghost invariant = { λ a. IsSound a.region a.table a.index.items };
 }
@@ -57,10 +60,10 @@ fn move_to(region: &mut Region, from: u32, to: u32, n: u32)
 impl Arena {
     ghost use Rattle.block_handles.specs.Layout.{IsEmpty, IsRegion};
     ghost use Rattle.block_handles.specs.Search.{IsFirst, IsLast, BeginsNone};
-    ghost use Rattle.block_handles.specs.Store.{IsThere, bytes_of, size_of, place_of, end_of, locks_of, region_len};
+    ghost use Rattle.block_handles.specs.Store.{IsThere, bytes_of, size_of, place_of, end_of, locks_of, most_of, region_len};
     ghost use Rattle.block_handles.specs.Layout.{IsLaidOut, IsFreeBut};
     ghost use Rattle.geos_terms.specs.Heap.{IsBlockSize, most_block_bytes};
-    ghost use Rattle.block_handles.specs.Change.{with_block, new_block, grown_block, with_place, with_lock_more, with_lock_less, after_write};
+    ghost use Rattle.block_handles.specs.Change.{with_block, new_block, grown_block, with_most, with_place, with_lock_more, with_lock_less, after_write};
     ghost use Rattle.block_handles.specs.Lending.{LendsBytes};
     ghost use Rattle.block_handles.specs.Offsets.{Copies, ReadsAs, ReadsByte, ReadsWord};
 
@@ -72,6 +75,7 @@ impl Arena {
             region: Region::new(alloc, len)?,
             table: Table::new(alloc)?,
             index: empty_index(alloc, (len / GRANULE) as usize + 1)?,
+            most: len,
         })
     }
 
@@ -79,6 +83,20 @@ impl Arena {
         ensures { result ≡ region_len self.now }
     {
         self.region.len()
+    }
+
+    /// How many bytes all blocks may have together.
+    pub(crate) fn most(&self) -> u32
+        ensures { result ≡ most_of self.now }
+    {
+        self.most
+    }
+
+    /// Sets how many bytes all blocks may have together.
+    pub(crate) fn limit(&mut self, most: u32)
+        ensures { self.new ≡ with_most self.old most }
+    {
+        self.most = most;
     }
 
     /// The bytes of the region, in which the blocks lie.

@@ -7,7 +7,7 @@
 //! (GEOS SDK Concepts Book, chapters Handles and Memory Management.)
 #![tactic(auto)]
 
-ghost use Rattle.std.specs.Prelude.{◌≡◌, ◌+◌, ◌/◌, ◌%◌, ◌<◌, ◌≤◌, ◌↔◌, [], ◌∷◌, ℕ, IsTrue, All, length, IfOk, IfSome, IfNone, OnOk, OnErr, Err};
+ghost use Rattle.std.specs.Prelude.{min, ◌-◌, ◌≡◌, ◌+◌, ◌/◌, ◌%◌, ◌<◌, ◌≤◌, ◌↔◌, [], ◌∷◌, ℕ, IsTrue, All, length, IfOk, IfSome, IfNone, OnOk, OnErr, Err};
 ghost use Rattle.std.specs.Borrow.{sem};
 
 mod arena;
@@ -34,7 +34,7 @@ use std::marker::Model;
 pub struct Blocks {
     // These two come first: where the region lies must not be where the blocks lie, which calls take. The compiler would keep that
     // address in memory, and read it for each load and store of a run.
-    /// How many bytes no block has.
+    /// How many bytes more blocks may have.
     free: u32,
     /// How often the blocks of the VM file are locked, all together.
     vm_locks: u32,
@@ -57,13 +57,13 @@ impl Model for Blocks {
 
 impl Blocks {
     ghost use Rattle.block_handles.specs.Calls.{Makes, Grows};
-    ghost use Rattle.block_handles.specs.Change.{with_lock_more, with_lock_less, without, after_write};
+    ghost use Rattle.block_handles.specs.Change.{with_lock_more, with_lock_less, with_most, without, after_write};
     ghost use Rattle.block_handles.specs.Layout.{IsEmpty, IsLaidOut, IsRegion};
     ghost use Rattle.geos_terms.specs.Heap.{IsBlockSize, most_block_bytes};
     ghost use Rattle.block_handles.specs.LendingBlocks.{LendsBlock};
     ghost use Rattle.block_handles.specs.Names.{slot_of, IsHandle};
     ghost use Rattle.block_handles.specs.Offsets.{Copies, CopiesCovered, ReadsAs, ReadsByte, ReadsWord, WritesCovered};
-    ghost use Rattle.block_handles.specs.Store.{IsThere, bytes_of, size_of, place_of, end_of, locks_of, region_len};
+    ghost use Rattle.block_handles.specs.Store.{IsThere, bytes_of, size_of, place_of, end_of, locks_of, most_of, region_len};
     ghost use Rattle.block_handles.specs.Stretch.{HasNoRoom, all_sizes, vm_locks};
     ghost use Rattle.block_handles.specs.Used.{IsLowest, AllInUse};
 
@@ -129,13 +129,31 @@ impl Blocks {
         self.vm_locks
     }
 
-    /// Whether the region has fewer than `more` bytes that no block has. Then no block of that
+    /// Whether blocks may have fewer than `more` bytes more. Then no block of that
     /// size can be made, and none grow by as much: a search for room would be in vain.
     pub fn lacks(&self, more: u32) -> bool
-        ensures lacks { IsTrue result ↔ (region_len self.now < all_sizes self.now + more) }
+        ensures lacks { IsTrue result ↔ (most_of self.now < all_sizes self.now + more) }
         ensures no_room { IsTrue result → (slot size : ℕ) → size ≡ size_of self.now slot + more → HasNoRoom self.now slot size }
     {
         self.free < more
+    }
+
+    /// How many bytes all blocks have together: never more than they may.
+    pub fn taken(&self) -> u32
+        ensures taken { result ≡ all_sizes self.now }
+        ensures within { result ≤ most_of self.now }
+    {
+        self.arena.most() - self.free
+    }
+
+    /// Lets all blocks together have `more` bytes more than they have, at most the whole region, until the next call.
+    /// So a large number takes the limit away. What would be more is refused as want of room is.
+    pub fn limit(&mut self, more: u32)
+        ensures { self.new ≡ with_most self.old (min more (region_len self.old - all_sizes self.old) + all_sizes self.old) }
+    {
+        let taken = self.arena.most() - self.free;
+        self.free = more.min(self.arena.len() - taken);
+        self.arena.limit(self.free + taken);
     }
 
     /// The end of the gap, the free range in which the next block is placed. If the block after it
@@ -315,8 +333,8 @@ impl Blocks {
     }
 
     /// Makes a block of `size` zero bytes, not locked, under a name that is not in use.
-    /// `NoRoom` if no stretch of the region has the room, `TooBig` above 65,520 bytes;
-    /// nothing changes then. Unlocked blocks may move.
+    /// `NoRoom` if it would be over the limit or no stretch of the region has the room, `TooBig`
+    /// above 65,520 bytes; nothing changes then. Unlocked blocks may move.
     pub fn make(&mut self, name: Name, size: u32) -> Result<(), RoomError>
         requires name { IsHandle name.h × (IsThere self.old (slot_of name) → ⊥) }
         requires size { (64 ≤ size) × (size % 16 ≡ 0) }
@@ -327,6 +345,9 @@ impl Blocks {
     {
         if size as usize > MOST_BLOCK_BYTES {
             return Err(RoomError::TooBig);
+        }
+        if self.free < size {
+            return Err(RoomError::NoRoom);
         }
         let slot = slot_of(name);
         let gap = room_for(&mut self.arena, self.gap, self.gap.end, slot, size)?;
@@ -342,8 +363,8 @@ impl Blocks {
 
     /// Grows a block to `size` bytes: it keeps its bytes, and zeros come after them. It may
     /// move, also where it is locked; another locked block stays, and unlocked ones may move.
-    /// `NoRoom` if no stretch of the region between the other locked blocks has the room,
-    /// `TooBig` above 65,520 bytes; nothing changes then.
+    /// `NoRoom` if it would be over the limit or no stretch of the region between the other locked
+    /// blocks has the room, `TooBig` above 65,520 bytes; nothing changes then.
     pub fn grow(&mut self, name: Name, size: u32) -> Result<(), RoomError>
         requires there { IsThere self.old (slot_of name) }
         requires size { (size_of self.old (slot_of name) ≤ size) × (size % 16 ≡ 0) }
@@ -359,6 +380,9 @@ impl Blocks {
         let place = self.arena.place(slot);
         let end = self.arena.end(slot);
         let more = size - (end - place);
+        if self.free < more {
+            return Err(RoomError::NoRoom);
+        }
         let gap = self.gap.reaching(place, end);
         let gap = room_for(&mut self.arena, gap, self.gap.end, slot, size)?;
         self.arena.relocate(slot, gap.at, size);

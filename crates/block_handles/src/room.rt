@@ -4,7 +4,7 @@ ghost use Rattle.block_handles.specs.Gap.{IsGapBut, MakesRoom};
 ghost use Rattle.block_handles.specs.Layout.{IsLaidOut};
 ghost use Rattle.block_handles.specs.Packing.{IsEdge, IsRoomy};
 ghost use Rattle.block_handles.specs.Store.{region_len};
-ghost use Rattle.block_handles.specs.Stretch.{HasNoRoom};
+ghost use Rattle.block_handles.specs.Stretch.{HasNoStretch};
 
 use crate::arena::Arena;
 use crate::error::RoomError;
@@ -69,7 +69,7 @@ fn stretch_for(arena: &Arena, after: u32, slot: usize, size: u32) -> Result<Stre
     ensures roomy { IfOk result (λ s. IsRoomy arena.now slot s.from s.until s.room) }
     ensures enough { IfOk result (λ s. size ≤ s.room) }
     ensures err { OnErr result (result ≡ Err RoomError.NoRoom) }
-    ensures full { OnErr result (HasNoRoom arena.now slot size) }
+    ensures full { OnErr result (HasNoStretch arena.now slot size) }
 {
     let least = if size < LEAST { LEAST } else { size };
     if let Some(stretch) = next_roomy(arena, after, slot, least) {
@@ -102,7 +102,7 @@ pub(crate) fn room_for(
     requires size { 0 < size }
     ensures ok { IfOk result (λ opened. MakesRoom arena.old arena.new slot size opened) }
     ensures err { OnErr result ((result ≡ Err RoomError.NoRoom) × (arena.new ≡ arena.old)) }
-    ensures full { OnErr result (HasNoRoom arena.old slot size) }
+    ensures full { OnErr result (HasNoStretch arena.old slot size) }
 {
     if gap.end - gap.at >= size {
         return Ok(gap);

@@ -15,4 +15,4 @@ overflow_add-self c =
     let count = count-freed c.self.inside.arena c.slot_of-slot.result c.self.invariant.ready.laid
     (c.if-not-has.ensures.0 refl) c.remove.new.self c.self.inside.free c.place-place.result c.end-end.result
     c.remove.ensures.store c.place-place.ensures c.end-end.ensures c.self.invariant.count in
-    omega (arith, count.counted, count.short)
+    omega (arith, count.counted, count.within, count.short)

@@ -4,8 +4,9 @@ use Rattle.block_handles.specs.Names.{slot_of}
 use Rattle.block_handles.specs.Store.{IsBlock, IsThere, Store, size_of}
 use Rattle.block_handles.specs.Stretch.{HasNoRoom}
 use Rattle.block_handles.specs.Used.{IsKept}
+use Rattle.block_handles.proofs.Counting.{lacking, no-stretch}
 use Rattle.block_handles.proofs.Packs.{size_along}
-use Rattle.block_handles.proofs.Readies.{edge-gap, grown-taken, grows, kept-grown_block, reached-gap, room-free}
+use Rattle.block_handles.proofs.Readies.{edge-gap, grows, kept-grown_block, reached-gap, room-free}
 use Rattle.block_handles.proofs.Blocks.grow.Goals as goal
 
 -- the block is there, and no longer than it is to be, in the store as its fields have it
@@ -47,7 +48,18 @@ invariant_of-self c = (let i = c.self.inside in subst (λ s. IsKept s i.gap i.us
 pub returns-in_err-gap-clause-no_room : goal.returns-in_err-gap-clause-no_room
 returns-in_err-gap-clause-no_room c = λ is.
     subst (λ s. HasNoRoom s (slot_of c.args.name) c.args.size) (sym c.in_err-gap.ensures.err.1)
-    (subst (λ k. HasNoRoom c.self.inside.arena k c.args.size) c.slot_of-slot.ensures c.in_err-gap.ensures.full)
+    (subst (λ k. HasNoRoom c.self.inside.arena k c.args.size) c.slot_of-slot.ensures
+    (no-stretch c.self.inside.arena c.self.inside.free c.slot_of-slot.result c.args.size c.self.invariant.count c.in_err-gap.ensures.full))
+
+pub returns-then-self-more-clause-no_room : goal.returns-then-self-more-clause-no_room
+returns-then-self-more-clause-no_room c = λ is.
+    let S = c.self.inside.arena in
+    let slot = c.slot_of-slot.result in
+    let more = less _ _ _ _ c.self.view_is c.slot_of-slot.ensures c.args.size c.requires.size.0 in
+    let no_room : HasNoRoom S slot c.args.size = lacking S c.self.invariant.ready.laid c.self.inside.free _ c.self.invariant.count
+    c.if-self-more.true slot c.args.size (omega (arith, more, c.place-place.ensures, c.end-end.ensures)) in
+    subst (λ s. HasNoRoom s (slot_of c.args.name) c.args.size) c.self.view_is
+    (subst (λ k. HasNoRoom S k c.args.size) c.slot_of-slot.ensures no_room)
 
 pub relocate-requires-clause-there : goal.relocate-requires-clause-there
 relocate-requires-clause-there c =
@@ -62,21 +74,13 @@ relocate-requires-clause-legal c =
 pub relocate-requires-clause-free : goal.relocate-requires-clause-free
 relocate-requires-clause-free c = room-free _ _ _ _ _ c.in_ok-gap.ensures.ok
 
-pub overflow_sub-self : goal.overflow_sub-self
-overflow_sub-self c =
-    (grown-taken c.self.inside.arena c.room_for.new.arena c.relocate.new.self c.slot_of-slot.result c.args.size
-    c.self.inside.free _ c.in_ok-gap.gap c.in_ok-gap.ensures.ok
-    (there _ _ _ _ c.self.view_is c.slot_of-slot.ensures c.requires.there)
-    (less _ _ _ _ c.self.view_is c.slot_of-slot.ensures c.args.size c.requires.size.0) (omega (arith, c.place-place.ensures, c.end-end.ensures))
-    c.self.invariant.ready.laid c.self.invariant.count c.relocate.ensures.store c.relocate.ensures.laid).0
-
 pub invariant_of-self-2 : goal.invariant_of-self-2
 invariant_of-self-2 c =
     kept-grown_block c.self.inside.arena c.room_for.new.arena c.relocate.new.self c.slot_of-slot.result c.args.size
     c.self.inside.free _ c.in_ok-gap.gap c.in_ok-gap.ensures.ok
     (there _ _ _ _ c.self.view_is c.slot_of-slot.ensures c.requires.there)
     (less _ _ _ _ c.self.view_is c.slot_of-slot.ensures c.args.size c.requires.size.0) (omega (arith, c.place-place.ensures, c.end-end.ensures))
-    c.self.invariant.ready.laid c.self.invariant.count c.relocate.ensures.store c.relocate.ensures.laid
+    c.if-self-more.false c.self.invariant.ready.laid c.self.invariant.count c.relocate.ensures.store c.relocate.ensures.laid
     c.self.inside.used.words.items c.self.inside.vm_locks c.self.invariant.used c.self.invariant.locked
 
 pub returns-clause-ok : goal.returns-clause-ok

@@ -1,10 +1,12 @@
 use Rattle.std.proofs.Common.{◌≡◌, ◌<◌, ℕ, slice_index_or, None, sym, subst, arith}
 use Rattle.block_handles.specs.Calls.{Makes}
 use Rattle.block_handles.specs.Names.{slot_of}
-use Rattle.block_handles.specs.Store.{IsBlock, IsThere, Store}
+use Rattle.block_handles.specs.Store.{IsBlock, IsThere, Store, size_of}
 use Rattle.block_handles.specs.Stretch.{HasNoRoom}
 use Rattle.block_handles.specs.Used.{IsKept}
+use Rattle.block_handles.proofs.Counting.{lacking, no-stretch}
 use Rattle.block_handles.proofs.Laws.{slot_of-small}
+use Rattle.block_handles.proofs.Layouts.{size_of_none}
 use Rattle.block_handles.proofs.Readies.{edge-gap, kept-made, made-taken, makes, room-free}
 use Rattle.block_handles.proofs.Blocks.make.Goals as goal
 
@@ -26,7 +28,15 @@ invariant_of-self c = (let i = c.self.inside in subst (λ s. IsKept s i.gap i.us
 pub returns-in_err-gap-clause-no_room : goal.returns-in_err-gap-clause-no_room
 returns-in_err-gap-clause-no_room c = λ is.
     subst (λ s. HasNoRoom s (slot_of c.args.name) c.args.size) (sym c.in_err-gap.ensures.err.1)
-    (subst (λ k. HasNoRoom c.self.inside.arena k c.args.size) c.slot_of-slot.ensures c.in_err-gap.ensures.full)
+    (subst (λ k. HasNoRoom c.self.inside.arena k c.args.size) c.slot_of-slot.ensures
+    (no-stretch c.self.inside.arena c.self.inside.free c.slot_of-slot.result c.args.size c.self.invariant.count c.in_err-gap.ensures.full))
+
+pub returns-then-self-size-clause-no_room : goal.returns-then-self-size-clause-no_room
+returns-then-self-size-clause-no_room c = λ is.
+    let none = size_of_none c.args.self.now (slot_of c.args.name) c.requires.name.1 in
+    subst (λ s. size_of s (slot_of c.args.name) ≡ 0 → HasNoRoom s (slot_of c.args.name) c.args.size) c.self.view_is
+    (λ none. lacking c.self.inside.arena c.self.invariant.ready.laid c.self.inside.free c.args.size c.self.invariant.count
+    c.if-self-size.true (slot_of c.args.name) c.args.size (omega (arith, none))) none
 
 pub create-requires-clause-slot : goal.create-requires-clause-slot
 create-requires-clause-slot c =
@@ -43,14 +53,6 @@ create-requires-clause-legal c = (c.requires.size.0, omega arith, c.requires.siz
 pub create-requires-clause-free : goal.create-requires-clause-free
 create-requires-clause-free c = room-free _ _ _ _ _ c.in_ok-gap.ensures.ok
 
-pub overflow_sub-self : goal.overflow_sub-self
-overflow_sub-self c =
-    let slot = c.slot_of-slot.result in
-    let small : slot < 2048 = rw c.slot_of-slot.ensures (slot_of-small c.args.name c.requires.name.0) in
-    (made-taken c.self.inside.arena c.room_for.new.arena c.create.new.self slot c.args.size c.self.inside.free
-    c.in_ok-gap.gap c.in_ok-gap.ensures.ok small
-    (absent _ _ _ _ c.self.view_is c.slot_of-slot.ensures c.requires.name.1) c.self.invariant.count c.create.ensures.store c.create.ensures.laid).0
-
 pub invariant_of-self-2 : goal.invariant_of-self-2
 invariant_of-self-2 c =
     let S = c.self.inside.arena in
@@ -60,11 +62,12 @@ invariant_of-self-2 c =
     let made = c.in_ok-gap.ensures.ok in
     let small : slot < 2048 = rw c.slot_of-slot.ensures (slot_of-small c.args.name c.requires.name.0) in
     let taken = made-taken S c.room_for.new.arena c.create.new.self slot c.args.size free gap made small
-    (absent _ _ _ _ c.self.view_is c.slot_of-slot.ensures c.requires.name.1) c.self.invariant.count c.create.ensures.store c.create.ensures.laid in
+    (absent _ _ _ _ c.self.view_is c.slot_of-slot.ensures c.requires.name.1) c.self.invariant.count
+    c.if-self-size.false c.create.ensures.store c.create.ensures.laid in
     kept-made S c.room_for.new.arena c.create.new.self slot c.args.size free c.self.inside.vm_locks gap
     c.self.inside.used.words.items c.insert.new.self.words.items made small
     (absent _ _ _ _ c.self.view_is c.slot_of-slot.ensures c.requires.name.1) c.self.invariant.used c.self.invariant.locked
-    taken.1 c.create.ensures.store c.create.ensures.laid c.insert.ensures
+    taken c.create.ensures.store c.create.ensures.laid c.insert.ensures
 
 pub returns-clause-ok : goal.returns-clause-ok
 returns-clause-ok c =

@@ -1,4 +1,4 @@
-use Rattle.std.proofs.Common.{arith}
+use Rattle.std.proofs.Common.{ap, arith}
 use Rattle.block_handles.proofs.Counting.{sizes-none}
 use Rattle.block_handles.proofs.LockSums.{lock-sum-none}
 use Rattle.block_handles.proofs.Readies.{ready-empty, used-empty}
@@ -10,6 +10,10 @@ invariant_of-result c =
     record {
       ready = ready-empty c.in_ok-new.field-0 _ e;
       used = used-empty c.in_ok-new.field-0 _ _ e c.in_ok-new-2.ensures.0 c.in_ok-new-2.ensures.1;
-      count = record { counted = omega (arith, e.long, sizes-none c.in_ok-new.field-0 e.none); short = omega (arith, e.long, c.ranges.region.fits) };
+      count = record {
+        counted = omega (arith, ap (λ l. l.most) e.long, sizes-none c.in_ok-new.field-0 e.none);
+        within = omega (arith, ap (λ l. l.most) e.long, ap (λ l. l.region) e.long);
+        short = omega (arith, ap (λ l. l.region) e.long, c.ranges.region.fits);
+      };
       locked = lock-sum-none c.in_ok-new.field-0 e.none;
     }
