@@ -96,7 +96,7 @@ module _ {D : Type 0} (medium : Medium D) (v : VmState D) (s t : Store) (h : ℕ
     blocks = table-same None (with_entry_at m.blocks h x) (map block_in (take 1024 t.blocks))
         (length-with_entry_at m.blocks h x ∙ long) now-long (λ k q. each k q);
     file = file-kept medium v s t 0 tied m.file (λ k q. keeps.each (vm_slot k) (apart k q)) is.file;
-    region = is.region ∙ sym keeps.len;
+    region = is.region ∙ ap (λ l. l.most) (sym keeps.len);
   }
     where
       long : length m.blocks ≡ 1024

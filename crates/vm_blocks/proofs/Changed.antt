@@ -54,7 +54,7 @@ module _ {D : Type 0} (medium : Medium D) (v : VmState D) (s t : Store) (m : Mem
   memory-thins but tied thins = record {
     blocks = is.blocks ∙ sym (slots-same s t tied.laid thins.laid (λ slot l. mem-thinned v s t but slot thins l));
     file = file-thins medium v s t but m.file tied thins is.file;
-    region = is.region ∙ sym thins.len;
+    region = is.region ∙ ap (λ l. l.most) (sym thins.len);
   }
 
   -- the device was read
@@ -68,7 +68,7 @@ module _ {D : Type 0} (medium : Medium D) (v : VmState D) (s t : Store) (m : Mem
     memory-given g = record {
       blocks = is.blocks ∙ sym (slots-same s t tied.laid keeps.laid (λ slot l. mem-kept v s t h slot p keeps l));
       file = g.file;
-      region = is.region ∙ sym keeps.len;
+      region = is.region ∙ ap (λ l. l.most) (sym keeps.len);
     }
 
     -- something else is listed under a handle
@@ -91,7 +91,7 @@ module _ {D : Type 0} (medium : Medium D) (v : VmState D) (s t : Store) (m : Mem
           record {
             blocks = is.blocks ∙ sym (slots-same s t tied.laid keeps.laid (λ slot l. mem-kept v s t h slot p keeps l));
             file = file-cur medium v w s t m.file now file (current-entry medium w t cur h p x is.file.cur.handles maps own other) legal is.file;
-            region = is.region ∙ sym keeps.len;
+            region = is.region ∙ ap (λ l. l.most) (sym keeps.len);
           }
 
     -- a block that is in memory

@@ -162,5 +162,5 @@ module _ {D : Type 0} (medium : Medium D) (v w : VmState D) (s t : Store) (m : M
             kept = (d.sure, now);
             legal = record { cur = loaded-legal pair_now.cur legal.0; saved = legal.1; kept = legal };
           };
-          region = is.region ∙ sym (store-len how d.store);
+          region = is.region ∙ ap (λ l. l.most) (sym (store-len how d.store));
         }

@@ -200,7 +200,7 @@ module _ {D : Type 0} (medium : Medium D) (v : VmState D) (s : Store) (m : Memor
       ∙ vm-crowd size model.size_in size-same refl h q none in
       let locked : other_locked s (vm_slot h) ≡ count_by is_locked (others m (vm h)) = slots-two (locked_one s (vm_slot h))
       ∙ vm-crowd one one_if_locked one-same refl h q none in
-      let region : m.region ≡ s.len = is.region in
+      let region : m.region ≡ s.len.most = is.region in
       let more : m.region < (count_by is_locked (others m (vm h)) + 1) * need + sum_by model.size_in (others m (vm h)) =
       rw (region, sym sizes, sym locked) crowded in
       less-test m.region ((count_by is_locked (others m (vm h)) + 1) * need + sum_by model.size_in (others m (vm h))) more
@@ -212,7 +212,7 @@ module _ {D : Type 0} (medium : Medium D) (v : VmState D) (s : Store) (m : Memor
       ∙ mem-crowd size model.size_in size-same refl h q none in
       let locked : other_locked s (h - 1) ≡ count_by is_locked (others m (mem h)) = slots-two (locked_one s (h - 1))
       ∙ mem-crowd one one_if_locked one-same refl h q none in
-      let region : m.region ≡ s.len = is.region in
+      let region : m.region ≡ s.len.most = is.region in
       let more : m.region < (count_by is_locked (others m (mem h)) + 1) * need + sum_by model.size_in (others m (mem h)) =
       rw (region, sym sizes, sym locked) crowded in
       less-test m.region ((count_by is_locked (others m (mem h)) + 1) * need + sum_by model.size_in (others m (mem h))) more

@@ -46,4 +46,4 @@ pub record IsFileOf {D : Type 0} (image : D → List ℕ) (honest : D → Type 0
 pub record IsMemoryOf {D : Type 0} (medium : Medium D) (v : VmState D) (s : Store) (m : Memory) : Type 0 where
   pub blocks : m.blocks ≡ map block_in (take 1024 s.blocks)
   pub file : IsFileOf medium.image medium.honest v s m.file
-  pub region : m.region ≡ s.len
+  pub region : m.region ≡ s.len.most

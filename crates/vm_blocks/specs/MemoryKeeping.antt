@@ -17,11 +17,11 @@ use Rattle.vm_blocks.specs.Room.{NoneIdle, Thins, own_handle}
 use Rattle.vm_blocks.specs.Spelled.{block_in, spelled}
 use Rattle.vm_blocks.specs.Tied.{IsTied}
 
--- memory with this file, whose blocks of global memory and whose region are those of a store
+-- memory with this file, whose blocks of global memory and whose limit are those of a store
 pub record IsSpelled (s : Store) (f : VmFile) (m : Memory) : Type 0 where
   pub blocks : m.blocks ≡ map block_in (take 1024 s.blocks)
   pub file : m.file ≡ f
-  pub region : m.region ≡ s.len
+  pub region : m.region ≡ s.len.most
 
 -- other blocks change: the model's file is the same
 abbrev pub OthersMayChange : {D : Type 0} → Medium D → VmState D → Type 0

@@ -34,4 +34,4 @@ opened_file image f = let pair = opened_pair image f in
 
 -- memory with that file, beside what the slots of global memory spell
 abbrev pub opened_memory : {D : Type 0} → (D → List ℕ) → FileState D → Store → Memory
-opened_memory image f s = record { blocks = map block_in (take 1024 s.blocks); file = opened_file image f; region = s.len }
+opened_memory image f s = record { blocks = map block_in (take 1024 s.blocks); file = opened_file image f; region = s.len.most }
