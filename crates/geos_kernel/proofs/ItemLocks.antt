@@ -1,10 +1,10 @@
 -- What the kernel promises of calls on items, and of a group that is locked with the span of an item of it.
-use Rattle.std.proofs.Common.{◌≡◌, ℕ, ◌+◌, ◌≤◌, List, Option, refl, ap, subst}
-use Rattle.std.specs.Prelude.{IfOk, OnOk, Result, Ok, Err}
+use Rattle.std.proofs.Common.{◌≡◌, ℕ, ◌+◌, ◌≤◌, List, Option, Some, None, refl, ap, subst, sym, ◌∙◌}
+use Rattle.std.specs.Prelude.{IfOk, IfSome, IsSomeAnd, OnOk, Result, Ok, Err}
 use Rattle.geos_terms.specs.declared.refusal.Refusal.{Refusal}
-use Rattle.geos_terms.specs.declared.refusal.Refusal.TheVariants.{Disk, NoRoom}
+use Rattle.geos_terms.specs.declared.refusal.Refusal.TheVariants.{BadHandle, Disk, NoRoom}
 use Rattle.geos_terms.specs.Edits.{Edit}
-use Rattle.geos_terms.specs.Names.{vm}
+use Rattle.geos_terms.specs.Names.{group_uid, vm}
 use Rattle.geos_calls.specs.Calls.{in_block}
 use Rattle.geos_calls.specs.Effects.{Call, Choice, effect_of}
 use Rattle.geos_calls.specs.Given.{given_memory}
@@ -14,11 +14,14 @@ use Rattle.block_handles.specs.Change.{with_lock_more}
 use Rattle.block_handles.specs.Store.{Store, IsThere, place_of}
 use Rattle.vm_file.specs.Device.{Medium}
 use Rattle.vm_blocks.specs.Bringing.{ReadsDevice}
-use Rattle.vm_blocks.specs.View.{VmState, vm_slot, with_device}
+use Rattle.vm_blocks.specs.declared.entries.Held.{Held}
+use Rattle.vm_blocks.specs.Room.{LacksRoom, NoneIdle}
+use Rattle.vm_blocks.specs.View.{VmState, held_at, vm_slot, with_device}
+use Rattle.db_items.specs.Groups.{IsGroup}
 use Rattle.db_items.specs.Items.{ChangesItem, LacksItemRoom, LocksItem, listed_after, refers_to}
 use Rattle.geos_kernel.specs.declared.span.Span.{Span}
 use Rattle.geos_kernel.specs.Files.{CallsItem, InMemory, LeavesKept, ReadsFile}
-use Rattle.geos_kernel.specs.Kernel.{IsKernel, ItemHasNoRoom, LeadsToSpan}
+use Rattle.geos_kernel.specs.Kernel.{HasNoRoomIn, IsKernel, ItemHasNoRoom, LeadsToSpan, ListedHasNoRoom}
 use Rattle.geos_kernel.specs.Spans.{IsStanding, IsWritable}
 use Rattle.geos_kernel.specs.View.{IsMarked, KernelOn, kernel_of, memory_of}
 use Rattle.geos_kernel.proofs.ItemCalls.{ilock-calls, ilock-stands, item-calls}
@@ -32,6 +35,7 @@ pub record LocksPart {D : Type 0} (medium : Medium D) (g i n : ℕ) (result : Re
   pub writable : IfOk result (λ span. IsMarked new.core g → IsWritable new.core span)
   pub locks : IsThere old.core.blocks (vm_slot g) → OnOk result (new.core.blocks ≡ with_lock_more old.core.blocks (vm_slot g))
   pub in_memory : InMemory g result old new
+  pub no_room : result ≡ Err NoRoom → ListedHasNoRoom new.core g
   pub device : ReadsFile medium (result ≡ Err Disk) old new
 
 -- a refusal of a span and one of its place have one cause
@@ -83,6 +87,20 @@ module _ {D : Type 0} (medium : Medium D) (v w : VmState D) (s t : Store) (k : K
   })
 
   module _ (i n : ℕ) where
+    -- it lacks room
+    lacks-room : (why : Refusal) → LocksItem medium g i n (Err why) v w s t → why ≡ NoRoom → ListedHasNoRoom new.core g
+    lacks-room why locks e = on (held_at v g) refl (locks.no_room (ap Err e))
+      where
+        on : (o : Option Held) → held_at v g ≡ o → IfSome o (λ held. LacksRoom v s t (vm g) held.len) → ListedHasNoRoom new.core g
+        on None none lacking =
+            let not-group : IsGroup v g → ⊥ = λ is. subst (λ o. IsSomeAnd o (λ (held : Held). held.uid ≡ group_uid)) none is in
+            let bad = (locks.no_group not-group).0 in
+            let other : BadHandle ≡ NoRoom = (let same : why ≡ BadHandle = cc in sym same ∙ e) in absurd cc
+        on (Some held) listed lacking =
+            subst (λ o. IsSomeAnd o (λ held. HasNoRoomIn new.core (vm g) held.len))
+            (sym (ap (λ (x : VmState D). held_at x g) locks.same ∙ listed))
+            (record { none = subst (λ (x : VmState D). NoneIdle x t g) (sym locks.same) lacking.none; no_room = lacking.no_room })
+
     -- the item was found
     pub part-locked : (at len : ℕ) → LocksItem medium g i n (Ok (at, len)) v w s t
         → LocksPart medium g i n (Ok (record { at = place_of t (vm_slot g) + at; len = len })) k new
@@ -97,6 +115,7 @@ module _ {D : Type 0} (medium : Medium D) (v w : VmState D) (s t : Store) (k : K
           locks = λ was. (locks.there was).1;
           in_memory = in-memory medium v w s t old refl g (Ok span) (λ was. (ap (λ (x : VmState D). x.file) (locks.there was).0, λ e. absurd cc))
               (λ other. tt) (λ e. absurd cc);
+          no_room = λ e. absurd cc;
           device = reads-file (λ e. absurd cc) (λ e. absurd cc) (ap (λ (x : VmState D). x.file) locks.same) locks.device;
         })
 
@@ -110,5 +129,6 @@ module _ {D : Type 0} (medium : Medium D) (v w : VmState D) (s t : Store) (k : K
       in_memory = in-memory medium v w s t old refl g (Err why)
           (λ was. (ap (λ (x : VmState D). x.file) (locks.there was).0, λ e. (locks.there was).2 (same-why why e)))
           (λ other was. locks.refused was) (λ e. locks.absent (same-why why e));
+      no_room = λ e. lacks-room why locks (let same : why ≡ NoRoom = cc in same);
       device = reads-file (same-why why) (same-why why) (ap (λ (x : VmState D). x.file) locks.same) locks.device;
     })

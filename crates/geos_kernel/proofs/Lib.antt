@@ -29,3 +29,4 @@ pub mod ItemLocks
 pub mod There
 pub mod Chosen
 pub mod Turns
+pub mod Limits

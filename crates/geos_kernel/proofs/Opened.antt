@@ -43,7 +43,7 @@ module _ (s : Store) (len : ℕ) (empty : IsEmpty s len) where
       → memory_of core f ≡ record { blocks = replicate 1024 None; file = f; region = len }
   empty-memory core is f =
       let blocks = ap (λ (t : Store). map block_in (take 1024 t.blocks)) is ∙ no-blocks in
-      let region = ap (λ (t : Store). t.len) is ∙ empty.long in
+      let region = ap (λ (t : Store). t.len.most) is ∙ ap (λ l. l.most) empty.long in
       λ k. record { blocks = blocks k; file = f; region = region k }
 
   -- a kernel begins, and the model knows the file as the device holds it
@@ -56,7 +56,7 @@ module _ (s : Store) (len : ℕ) (empty : IsEmpty s len) where
     few = λ name. omega (arith, ap locks_in (empty.none (slot_of name)));
     tied = tied;
     known = (m.file, begun.file);
-    small = omega (arith, empty.long, most);
+    small = omega (arith, ap (λ l. l.region) empty.long, most);
   }
 
 -- A new file

@@ -5,3 +5,4 @@ pub mod Loads
 pub mod Refused
 pub mod Turns
 pub mod Files
+pub mod Limits

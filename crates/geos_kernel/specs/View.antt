@@ -71,7 +71,7 @@ SeesDevice medium k = failed_in k.core ≡ medium.failed k.device
 
 -- what all blocks of global memory spell, beside the VM file that the model knows
 abbrev pub memory_of : KernelState → VmFile → model.Memory
-memory_of s f = record { blocks = map block_in (take 1024 s.blocks.blocks); file = f; region = s.blocks.len }
+memory_of s f = record { blocks = map block_in (take 1024 s.blocks.blocks); file = f; region = s.blocks.len.most }
 
 -- what the VM file that the model knows has to do with a kernel, where `good` says that its
 -- device is honest: it lists what the kernel lists, and has what is in memory; and, of an honest

@@ -49,8 +49,8 @@ impl<D: Device + Drop> Model for Kernel<D> {
 impl<D: Device + Drop> Kernel<D> {
     ghost use Rattle.std.specs.Prelude.{ℕ, None, replicate};
     ghost use Rattle.block_handles.specs.Layout.{IsEmpty, IsLaidOut};
-    ghost use Rattle.block_handles.specs.Stretch.{vm_locks};
-    ghost use Rattle.block_handles.specs.Store.{bytes_of};
+    ghost use Rattle.block_handles.specs.Stretch.{all_sizes, vm_locks};
+    ghost use Rattle.block_handles.specs.Store.{bytes_of, most_of};
     ghost use Rattle.block_handles.specs.Store as store;
     ghost use Rattle.geos_calls.specs.Calls as table;
     ghost use Rattle.geos_calls.specs.ChunkCalls.{change_edit, change_row, make_edit, make_row, ask_row, refer_row, least, may_grow};
@@ -65,6 +65,7 @@ impl<D: Device + Drop> Kernel<D> {
     ghost use Rattle.vm_blocks.specs.View.{held_at};
     ghost use Rattle.vm_file.specs.Outcomes.{IsHeapUnder};
     ghost use Rattle.geos_kernel.specs.Files.{LeavesKept};
+    ghost use Rattle.geos_kernel.specs.Limits.{with_room};
     ghost use Rattle.geos_kernel.specs.Kernel.{Calls, GivesSpan, HasNoRoomFor, LeavesVm, NewHasNoRoom, Remain, StaysIfRefused};
     ghost use Rattle.geos_kernel.specs.Spans.{IsStanding, IsWritable};
     ghost use Rattle.geos_kernel.specs.View.{chunks_at, file_over, IsFileOf, IsLocked, MayChange, memory_of, SeesDevice};
@@ -121,6 +122,26 @@ impl<D: Device + Drop> Kernel<D> {
         ensures laid { IsLaidOut self.now.core.blocks }
     {
         self.blocks.vm_locks()
+    }
+
+    /// How many bytes all blocks in memory have together: never more than they may.
+    pub fn taken(&self) -> u32
+        ensures taken { result ≡ all_sizes self.now.core.blocks }
+        ensures within { result ≤ most_of self.now.core.blocks }
+    {
+        self.blocks.taken()
+    }
+
+    /// Lets all blocks in memory together have `more` bytes more than they have, at most the whole region, until the next call. So a
+    /// large number takes the limit away. What would be more is refused as want of room is, after all blocks were discarded that may be.
+    pub fn limit(&mut self, more: u32)
+        ensures limited { self.new.core ≡ with_room self.old.core more }
+        ensures device { self.new.device ≡ self.old.device }
+        // The model has the limit as its region, and knows what it knew.
+        ensures file { (f : model_file.VmFile) → IsFileOf (D.medium.honest self.old.device) self.old.core f
+            → IsFileOf (D.medium.honest self.new.device) self.new.core f }
+    {
+        self.blocks.limit(more);
     }
 
     /// Whether a block of the VM file is marked as changed; `false` if there is none.

@@ -58,6 +58,9 @@ returns-clause-device g c = (locked g c).device
 pub returns-clause-in_memory : goal.returns-clause-in_memory
 returns-clause-in_memory g c = (locked g c).in_memory
 
+pub returns-clause-no_room : goal.returns-clause-no_room
+returns-clause-no_room g c = (locked g c).no_room
+
 pub returns-clause-locks : goal.returns-clause-locks
 returns-clause-locks g c = (locked g c).locks
 
