@@ -45,6 +45,7 @@ keeps-same lacks honest base s = record {
   map_item = λ without. refl;
   blocks = λ without h. refl;
   stored = λ h steady spared. refl;
+  limit = refl;
 }
 
 pub keeps-then : (lacks : Effect → Type 0) (honest : Type 0) (base : Base) (a b c : State) → Keeps lacks honest base a b
@@ -59,6 +60,7 @@ keeps-then lacks honest base a b c x y = record {
   blocks = λ without h. y.blocks without h ∙ x.blocks without h;
   locked = λ without h out. y.locked without h out ∙ x.locked without h out;
   stored = λ h steady spared. y.stored h steady spared ∙ x.stored h steady spared;
+  limit = y.limit ∙ x.limit;
 }
 
 -- where more is lacking, more is kept
@@ -74,6 +76,7 @@ keeps-more few many honest base a b less x = record {
   blocks = λ without h. x.blocks (less effect.Memory without) h;
   locked = λ without h out. x.locked (less effect.LocksByHandle without) h out;
   stored = λ h steady spared. x.stored h steady (less effect.ChangesFile spared.0, λ k is. less (effect.ChangesLent k) (spared.1 k is));
+  limit = x.limit;
 }
 
 -- Memory that comes of a call
@@ -106,6 +109,11 @@ module _ (choice : Choice) (old new : Memory) where
   map_item-of (Some call) (inl same) without = ap (λ (m : Memory). m.file.cur.map_item) same
   map_item-of (Some call) (inr same) without =
       ap (λ (m : Memory). m.file.cur.map_item) same ∙ (rows_leave.file call choice old).map_item (no-item_map call old without)
+
+  limit-of : (of : Option KernelCall) → CameOf of choice old new → new.region ≡ old.region
+  limit-of None same = ap (λ (m : Memory). m.region) same
+  limit-of (Some call) (inl same) = ap (λ (m : Memory). m.region) same
+  limit-of (Some call) (inr same) = ap (λ (m : Memory). m.region) same ∙ (rows_leave.others call choice old).region
 
 -- the fact holds of the state after a step
 pub of-next : {P R : State → Type 0} → ((t : State) → P t → R t) → (o : Outcome) → OfNext P o → OfNext R o
@@ -157,6 +165,7 @@ module _ (moment : Moment) (choice : Choice) (lacks : Effect → Type 0) (here :
     locked = λ without h out. locked-of of aim came (here effect.LocksByHandle without) h (untaken without h out) (host-locked h out);
     stored = λ h steady spared. stored-of of aim came h (parts-file (here effect.ChangesFile spared.0))
         (λ a is. here (effect.ChangesLent a) (spared.1 a is));
+    limit = limit-of choice s.memory t.memory of came;
   }
     where
       parts-memory : LacksHere moment effect.Memory → (uses_memory G.point.instr.opcode ≡ false)
@@ -269,6 +278,7 @@ begun-keeps lacks honest base choice s S given = record {
   blocks = λ without h. refl;
   locked = λ without h out. refl;
   stored = λ h steady spared. steadily h steady;
+  limit = refl;
 }
   where
     steadily : (h : ℕ) → IsSteady honest base.lends h → stored_at (given_memory choice.given s.memory) h ≡ stored_at s.memory h

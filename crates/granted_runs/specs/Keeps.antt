@@ -1,7 +1,9 @@
 -- What a run leaves as it was, by the effects that its routine lacks.
-use Rattle.std.specs.Prelude.{◌≡◌, ◌<◌, ◌⊎◌, ℕ, false, List, [], Option, Some, None, option_map, slice_index_or}
+use Rattle.std.specs.Prelude.{◌≡◌, ◌<◌, ◌≤◌, ◌⊎◌, ℕ, false, List, [], Option, Some, None, option_map, slice_index_or}
 use Rattle.geos_terms.specs.declared.name.Name.{Name}
 use Rattle.geos_terms.specs.Names.{mem, vm}
+use Rattle.block_handles.specs.Store.{most_of}
+use Rattle.block_handles.specs.Stretch.{all_sizes}
 use Rattle.vm_blocks.specs.Found.{OpensAsKept}
 use Rattle.geos_calls.specs.Directories.{KeptBlock, kept_block}
 use Rattle.geos_calls.specs.Memory.{Memory, at_handle, listed_at}
@@ -37,7 +39,7 @@ IsSteady honest lends h = honest ⊎ ((a : ℕ) × (slice_index_or lends a None 
 -- from one state to another, what the effects that are lacking could change is as it was: without output, nothing is put out; without
 -- commits, the device holds what it held, and what is saved is the same; without the map, the same is mapped; without memory, each block of
 -- global memory is the same; without locks by handle, each one that others have locked is the same; and each block of the VM file that may not be changed is the same, if it is lent or the device gives back what was
--- written to it
+-- written to it; and the limit on the bytes of all blocks is the same
 pub record Keeps (lacks : Effect → Type 0) (honest : Type 0) (base : Base) (old new : State) : Type 0 where
   pub output : lacks effect.Output → new.output ≡ old.output
   pub kept : lacks effect.Commits → new.memory.file.kept ≡ old.memory.file.kept
@@ -49,6 +51,7 @@ pub record Keeps (lacks : Effect → Type 0) (honest : Type 0) (base : Base) (ol
   pub locked : lacks effect.LocksByHandle → (h : ℕ) → 0 < base.locks (mem h)
       → at_handle None new.memory.blocks h ≡ at_handle None old.memory.blocks h
   pub stored : (h : ℕ) → IsSteady honest base.lends h → IsSpared lacks base.lends h → stored_at new.memory h ≡ stored_at old.memory h
+  pub limit : new.memory.region ≡ old.memory.region
 
 -- an effect is not granted
 abbrev pub IsDenied : Effects → Effect → Type 0
@@ -75,10 +78,12 @@ abbrev pub SparesDenied : Parts → ℕ → List ℕ → List ℕ → Memory →
 SparesDenied image r words handles memory choices last = (grants : Effects) → DoesOnly image grants r
     → Spares image r words handles memory choices last grants
 
--- the model's run took a kernel to another; what is not granted is as before; and, without commits, a stop at any moment of the run leaves
--- what the file had as kept
+-- the model's run took a kernel to another; what is not granted is as before; without commits, a stop at any moment of the run leaves
+-- what the file had as kept; and the limit is the same, which the bytes of all blocks are within
 pub record RanWithin (honest : Type 0) (within : Within) (image : Parts) (r : ℕ) (words handles : List ℕ)
     (old new : KernelState) (outcome : Outcome) (f : VmFile) : Type 0 where
   pub ran : RanWith honest within image r words handles old new outcome f
   pub spares : SparesDenied image r words handles (memory_of old f) ran.ran.choices ran.ran.last
   pub stops : (grants : Effects) → DoesOnly image grants r → IsDenied grants effect.Commits → honest → within (OpensAsKept f.kept)
+  pub limit : most_of new.blocks ≡ most_of old.blocks
+  pub taken : all_sizes new.blocks ≤ most_of old.blocks

@@ -31,6 +31,8 @@ fn copied(words: &[u16; 8]) -> [u16; 8]
 /// - without `Memory`, so are all blocks of global memory, and without `LocksByHandle` those that the caller has locked;
 /// - without `ChangesFile`, so are the user IDs, chunks and sizes of all blocks and groups of the VM file that are not lent, on a device
 ///   that gives back what was written to it, and of each block that is lent to slots without `ChangesLent`, on every device.
+///
+/// Whatever is granted, all blocks in memory together have at most as many bytes as `Kernel::limit` let them have before.
 pub fn run_granted<'m, D: Device + Drop>(
     machine: &'m mut Machine,
     call: &RoutineCall<'_>,
@@ -46,5 +48,13 @@ pub fn run_granted<'m, D: Device + Drop>(
     kernel.memory_is_legal();
     let _words = copied(call.words);
     let _image = call.checked.image();
-    machine.run_in_place(call.checked, call.routine, call.words, call.handles, kernel)
+    let outcome = machine.run_in_place(
+        call.checked,
+        call.routine,
+        call.words,
+        call.handles,
+        kernel,
+    );
+    let _taken = kernel.taken();
+    outcome
 }

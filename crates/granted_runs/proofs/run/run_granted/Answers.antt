@@ -9,14 +9,15 @@ returns g c =
     let call = c.args.call.now in
     let image = call.checked.now in
     let legal = c.memory_is_legal.ensures in
-    let gave = c.run_in_place.ensures in
+    let gave = c.run_in_place-outcome.ensures in
     record {
       gave = gave;
       within = λ f tied.
-          ran-within g.D.Device.medium c.args.kernel.now.device c.run_in_place.new.kernel.device image c.image-image.ensures.checked
-          call.routine call.words.now call.handles.now c.args.kernel.now.core c.run_in_place.new.kernel.core
-          c.run_in_place.result.now f honest (legal.legal f tied)
+          ran-within g.D.Device.medium c.args.kernel.now.device c.run_in_place-outcome.new.kernel.device image c.image-image.ensures.checked
+          call.routine call.words.now call.handles.now c.args.kernel.now.core c.run_in_place-outcome.new.kernel.core
+          c.run_in_place-outcome.result.now f honest (legal.legal f tied)
           (lends-lent honest c.args.kernel.now.core f tied (legal.locks f tied) (entry_slots image call.routine) call.handles.now
           c.requires.lent)
-          (rw c.copied-words.ensures.value at c.copied-words.ensures.small) c.requires.admitted (gave.ran f tied);
+          (rw c.copied-words.ensures.value at c.copied-words.ensures.small) c.requires.admitted
+          (rw c.taken-taken.ensures.taken at c.taken-taken.ensures.within) (gave.ran f tied);
     }
