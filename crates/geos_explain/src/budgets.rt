@@ -12,9 +12,10 @@ ghost use Rattle.geos_explain.specs.Budgets.{WhatIsSaidOfWordsHolds};
 use crate::filled::Filled;
 use crate::led::led_from;
 use crate::notes::{put_budget, put_budget_wish};
+use crate::phrases::Phrase;
 use crate::place::Place;
 use crate::routines::{first_or, is_inside};
-use crate::saying::Saying;
+use crate::saying::{Fact, Saying};
 use geos_flow::{Counting, Edge, Heading, Marks, is_marked};
 use geos_image::{Instr, Row};
 use geos_opcodes::CounterUse;
@@ -128,9 +129,7 @@ fn unset_loop(place: &Place, k: u8) -> Option<u16>
 fn put_unset_loop(out: &mut Saying, place: &Place, k: u8, pc: u16)
     requires { IsTakenUnset (place_of place.now) k pc }
 {
-    out.number("; k", k as u64)
-        .at(" is not set on a path to LOOP at", pc)
-        .text(": set it first by SETK or SETKW");
+    out.put2(Phrase::NotSetOnPath, Fact::Index(k), Fact::Line(pc))
 }
 
 /// The same of a counter that still pays at a place, if there is such an instruction.
@@ -181,10 +180,7 @@ fn calling_on(place: &Place) -> Option<u16>
 fn put_never_served(out: &mut Saying, place: &Place, from: u16)
     requires { IsNeverServed (place_of place.now) from }
 {
-    out.say(
-        ": no budget is enough, since CALL at@ names no earlier routine",
-        from as u64,
-    );
+    out.put1(Phrase::NoBudgetIsEnough, Fact::Line(from))
 }
 
 /// Which budget is enough: none if there is such a call, and otherwise the least that the potential is within.
@@ -237,16 +233,9 @@ fn setting_to_any(place: &Place) -> Option<u16>
 fn put_any(out: &mut Saying, place: &Place, from: u16)
     requires { IsSetToAny (place_of place.now) from }
 {
-    match place.image.point(from) {
-        Some(point) => {
-            out.say3(
-                "; w# may be 65535 at@, which sets k#: bound it by CHK before that",
-                point.instr.b as u64,
-                from as u64,
-                point.instr.a as u64,
-            );
-        },
-        None => {}
+    if let Some(point) = place.image.point(from) {
+        let (word, counter) = (Fact::Index(point.instr.b), Fact::Index(point.instr.a));
+        out.put3(Phrase::WordMayBeAny, word, Fact::Line(from), counter)
     }
 }
 

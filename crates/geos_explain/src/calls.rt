@@ -1,10 +1,9 @@
 //! What a routine that a CALL names does with slots, and with the VM file.
 
-ghost use Rattle.std.specs.Prelude.{◌<◌, length};
-
 use crate::filled::Filled;
+use crate::phrases::Phrase;
 use crate::place::Place;
-use crate::saying::Saying;
+use crate::saying::{Fact, Saying};
 use crate::uses::unlocking;
 use geos_image::{Routine, SlotState};
 use geos_opcodes::SlotUse;
@@ -24,38 +23,27 @@ pub(crate) enum Change {
 /// What routine r itself does with the slot.
 pub(crate) fn change_of(image: &Filled, r: u16, a: u8) -> Change {
     let mut change = Change::Leaves;
-    if r >= image.count() {
-        return change;
-    }
-    let start = image.start(r);
-    for n in 0..image.routine(r).count {
-        if let Some(point) = image.point(start + n) {
-            match point.instr.opcode.uses().slot {
-                SlotUse::LocksNew(_) | SlotUse::Locks(_) if point.instr.a == a => {
-                    return Change::Locks;
-                }
-                SlotUse::Unlocks(_) if point.instr.a == a => change = Change::Unlocks,
-                _ => {}
+    for point in image.points_of(r) {
+        match point.instr.opcode.uses().slot {
+            SlotUse::LocksNew(_) | SlotUse::Locks(_) if point.instr.a == a => {
+                return Change::Locks;
             }
+            SlotUse::Unlocks(_) if point.instr.a == a => change = Change::Unlocks,
+            _ => {}
         }
     }
     change
 }
 
 /// Whether routine r writes the VM file, or calls one that does by the table.
-fn commits_by(image: &Filled, r: u16, table: &[bool; 32]) -> bool
-    requires { r < length image.now.routines }
-{
-    let start = image.start(r);
-    for n in 0..image.routine(r).count {
-        if let Some(point) = image.point(start + n) {
-            let callee = usize::from(point.instr.imm);
-            if let SlotUse::Commits = point.instr.opcode.uses().slot {
-                return true;
-            }
-            if calls(point.instr.opcode) && callee < 32 && table[callee] {
-                return true;
-            }
+fn commits_by(image: &Filled, r: u16, table: &[bool; 32]) -> bool {
+    for point in image.points_of(r) {
+        let callee = usize::from(point.instr.imm);
+        if let SlotUse::Commits = point.instr.opcode.uses().slot {
+            return true;
+        }
+        if calls(point.instr.opcode) && callee < 32 && table[callee] {
+            return true;
         }
     }
     false
@@ -76,69 +64,47 @@ fn commits(image: &Filled, r: u16) -> bool {
 
 /// Whether routine q has a CALL of routine r.
 pub(crate) fn calls_to(image: &Filled, q: u16, r: u16) -> bool {
-    if q >= image.count() {
-        return false;
-    }
-    let start = image.start(q);
-    for n in 0..image.routine(q).count {
-        if let Some(point) = image.point(start + n) {
-            if calls(point.instr.opcode) && point.instr.imm == r {
-                return true;
-            }
+    for point in image.points_of(q) {
+        if calls(point.instr.opcode) && point.instr.imm == r {
+            return true;
         }
     }
     false
 }
 
 /// Why routine r can't be called while a slot has such a block, if it can't: it takes only borrowed ones, or writes the VM file.
-pub(crate) fn forbids(image: &Filled, r: u16, state: SlotState) -> Option<&'static str> {
+pub(crate) fn forbids(image: &Filled, r: u16, state: SlotState) -> Option<Phrase> {
     if r >= image.count() || !state.is_own() {
         return None;
     }
     if image.routine(r).public {
-        return Some(" is public, and takes only borrowed slots");
+        return Some(Phrase::IsPublic);
     }
     if is_of_file(state) && commits(image, r) {
-        return Some(" writes the file");
+        return Some(Phrase::WritesTheFile);
     }
     None
 }
 
 /// A slot that has a block is to be emptied before a CALL of a routine that forbids it.
-fn put_emptied(out: &mut Saying, a: u8, state: SlotState, name: &[u8], why: &str) {
-    out.text(unlocking(state))
-        .say_of(" s# before the CALL, since %", name, a as u64)
-        .text(why);
-}
-
-/// A routine that a CALL names locks a block into the slot.
-fn put_locked(out: &mut Saying, a: u8, name: &[u8]) {
-    out.say_of(
-        "% locks a block into s# itself: lock this one into another slot, and say that in the in and out lines of %",
-        name,
-        a as u64,
-    );
+fn put_emptied(out: &mut Saying, a: u8, state: SlotState, name: &[u8], why: Phrase) {
+    let unlocks = Fact::Phrase(unlocking(state));
+    out.put_of2(Phrase::UnlockBeforeCall, name, unlocks, Fact::Index(a));
+    out.put(why)
 }
 
 /// What to do with a slot that has a block at a CALL of a routine that requires it empty.
 fn put_lent(out: &mut Saying, place: &Place, callee: &Routine, a: u8) {
     let state = slot_state(place.row, a);
     let name = callee.name_text();
-    out.text("; ");
+    out.put(Phrase::Then);
     if let Some(why) = forbids(place.image, place.i.imm, state) {
         return put_emptied(out, a, state, name, why);
     }
     match change_of(place.image, place.i.imm, a) {
-        Change::Locks => put_locked(out, a, name),
-        Change::Unlocks => {
-            out.slot("say", a, state)
-                .name(" in the in line of ", name)
-                .text(", which unlocks it");
-        }
-        Change::Leaves => {
-            out.slot("say", a, state)
-                .name(" in the in and out lines of ", name);
-        }
+        Change::Locks => out.put_of(Phrase::LocksItself, name, Fact::Index(a)),
+        Change::Unlocks => out.put_of(Phrase::SayInLine, name, Fact::Slot(a, state)),
+        Change::Leaves => out.put_of(Phrase::SayInBothLines, name, Fact::Slot(a, state)),
     }
 }
 

@@ -8,8 +8,9 @@ use crate::calls::{Change, change_of, forbids};
 use crate::forgotten::{Item, forgetting_call, knows, last_moving};
 use crate::lacks::as_marked;
 use crate::led::is_reached;
+use crate::phrases::Phrase;
 use crate::place::Place;
-use crate::saying::Saying;
+use crate::saying::{Fact, Saying};
 use crate::stale::{name_at, put_traced};
 use crate::uses::{mark_word, put_ask_wish, put_bounding, unlocking};
 use geos_image::{Opcode, Pointer, Row, SlotState};
@@ -35,12 +36,8 @@ fn put_apart(out: &mut Saying, pair: u8) {
 
 /// A pointer as in a line `in` or `out`.
 fn put_leads(out: &mut Saying, p: u8, pointer: Pointer) {
-    out.say3(
-        " p#=s#:#",
-        p as u64,
-        pointer.slot as u64,
-        pointer.least as u64,
-    );
+    let (slot, least) = (Fact::Index(pointer.slot), Fact::Count(pointer.least));
+    out.put3(Phrase::Leads, Fact::Index(p), slot, least)
 }
 
 /// The item as it is in a line `in` or `out`. Of a slot that is to have a block, what the row has there.
@@ -48,14 +45,10 @@ fn put_item(out: &mut Saying, place: &Place, item: Item, row: &Row) {
     match item {
         Item::Bound(w, most) => {
             let bound = bound_before(place, item, row, w, most);
-            out.say2(" w#<=#", w as u64, bound as u64);
+            out.put2(Phrase::Bound, Fact::Index(w), Fact::Count(bound))
         }
-        Item::Slot(a, state) => {
-            out.slot("", a, state);
-        }
-        Item::Held(a) => {
-            out.slot("", a, slot_state(row, a));
-        }
+        Item::Slot(a, state) => out.slot(a, state),
+        Item::Held(a) => out.slot(a, slot_state(row, a)),
         Item::Leads(p, pointer) => put_leads(out, p, pointer),
         Item::Apart(pair) => put_apart(out, pair),
     }
@@ -63,49 +56,35 @@ fn put_item(out: &mut Saying, place: &Place, item: Item, row: &Row) {
 
 /// The item is to be said in the lines of a routine.
 fn put_say(out: &mut Saying, place: &Place, item: Item, row: &Row, name: &[u8]) {
-    out.text(": say");
+    out.put(Phrase::ColonSay);
     put_item(out, place, item, row);
-    out.name(" in the in and out lines of ", name);
+    out.put_of(Phrase::InBothLines, name, Fact::Nothing)
 }
 
 /// A pointer is to be fetched again, or said in the lines of a routine that leaves its slot.
 fn put_again(out: &mut Saying, p: u8, pointer: Pointer, change: Change, name: &[u8]) {
-    out.say(": fetch p# again after it", p as u64);
+    out.put1(Phrase::FetchAfterIt, Fact::Index(p));
     if let Change::Leaves = change {
-        out.say_of(
-            ", or, if % moves nothing in s#, say",
-            name,
-            pointer.slot as u64,
-        );
+        out.put_of(Phrase::OrIfMovesNothing, name, Fact::Index(pointer.slot));
         put_leads(out, p, pointer);
-        out.name(" in the in and out lines of ", name);
+        out.put_of(Phrase::InBothLines, name, Fact::Nothing)
     }
 }
 
 /// A routine changes the slot itself.
 fn put_changed(out: &mut Saying, a: u8, change: Change, name: &[u8]) {
-    let (does, cure) = match change {
-        Change::Locks => (
-            " locks a block into s",
-            " itself: lock this one into another slot",
-        ),
-        _ => (" unlocks s", ": lock it again after the CALL"),
+    let words = match change {
+        Change::Locks => Phrase::AndLocks,
+        _ => Phrase::AndUnlocks,
     };
-    out.name(", and ", name)
-        .text(does)
-        .number("", a as u64)
-        .text(cure);
+    out.put_of(words, name, Fact::Index(a))
 }
 
 /// A slot is to be unlocked before a CALL, for this reason.
-fn put_before(out: &mut Saying, a: u8, state: SlotState, name: &[u8], why: &'static str) {
-    out.name(": ", unlocking(state).as_bytes())
-        .say_of(
-            " s# before it, and lock it again after it, since %",
-            name,
-            a as u64,
-        )
-        .text(why);
+fn put_before(out: &mut Saying, a: u8, state: SlotState, name: &[u8], why: Phrase) {
+    let unlocks = Fact::Phrase(unlocking(state));
+    out.put_of2(Phrase::UnlockBeforeIt, name, unlocks, Fact::Index(a));
+    out.put(why)
 }
 
 /// What helps if a CALL of routine r forgets what a slot had.
@@ -137,10 +116,10 @@ fn put_forgotten_at(out: &mut Saying, place: &Place, item: Item, from: u16, poin
     requires { IsForgottenBy (place_of place.now) item from }
 {
     let r = point.instr.imm;
-    out.say_of(
-        "; CALL at@ leaves only what the out line of % says",
+    out.put_of(
+        Phrase::CallLeavesOnlyOut,
         name_at(place.image, r),
-        from as u64,
+        Fact::Line(from),
     );
     put_kept_wish(out, place, item, r, &point.row)
 }
@@ -172,33 +151,23 @@ fn put_bound_cure(out: &mut Saying, place: &Place, wanted: &Row, w: u8)
 
 /// The block of a slot is to be marked.
 fn put_marking(out: &mut Saying, a: u8, state: SlotState) {
-    out.say_of(
-        "; % s# before this marks it",
-        mark_word(state).as_bytes(),
-        a as u64,
-    );
+    let marks = Fact::Phrase(mark_word(state));
+    out.put2(Phrase::MarksBefore, marks, Fact::Index(a))
 }
 
 /// What a slot is to have that it does not have, and that no CALL took: at a return, or elsewhere.
 fn put_locking(out: &mut Saying, place: &Place, wanted: SlotState, a: u8) {
-    let known = slot_state(place.row, a);
     let returns = matches!(place.i.opcode, Opcode::Ret);
-    let (words, cure) = if !wanted.is_own() {
-        ("; what is borrowed has to stay in", "")
+    let words = if !wanted.is_own() {
+        Phrase::BorrowedStays
     } else if returns {
-        (
-            "; on each path to this return lock a block into",
-            ", or leave it out of the out line",
-        )
-    } else if is_empty(known) {
-        ("; first lock a block into", "")
+        Phrase::LockOnEachPath
+    } else if is_empty(slot_state(place.row, a)) {
+        Phrase::FirstLock
     } else {
-        (
-            "; lock a block of the kind that is required, or require the one that is in",
-            "",
-        )
+        Phrase::LockOfKind
     };
-    out.text(words).number(" s", a as u64).text(cure);
+    out.put1(words, Fact::Index(a))
 }
 
 /// The same of what a slot has.
@@ -216,16 +185,6 @@ fn put_slot_cure(out: &mut Saying, place: &Place, wanted: &Row, a: u8) {
     }
 }
 
-/// The pointer leads into another slot.
-fn put_other_slot(out: &mut Saying, p: u8, known: u8, wanted: u8) {
-    out.say3(
-        "; p# leads into s#: fetch it from s#",
-        p as u64,
-        known as u64,
-        wanted as u64,
-    );
-}
-
 /// The same of where a pointer leads. Whether it was followed back, which `follows` allows.
 fn put_pointer_cure(out: &mut Saying, place: &Place, wanted: &Row, p: u8, follows: bool) -> bool {
     let Some(pointer) = pointer_at(wanted, p) else {
@@ -241,7 +200,8 @@ fn put_pointer_cure(out: &mut Saying, place: &Place, wanted: &Row, p: u8, follow
             false
         }
         Some(known) => {
-            put_other_slot(out, p, known.slot, pointer.slot);
+            let (leads, from) = (Fact::Index(known.slot), Fact::Index(pointer.slot));
+            out.put3(Phrase::LeadsIntoOther, Fact::Index(p), leads, from);
             false
         }
         None if follows => {
@@ -250,15 +210,6 @@ fn put_pointer_cure(out: &mut Saying, place: &Place, wanted: &Row, p: u8, follow
         }
         None => false,
     }
-}
-
-/// Two slots are to be compared.
-fn put_comparing(out: &mut Saying, a: u8, b: u8) {
-    out.say2(
-        "; SNE s# s# L before this tells them apart",
-        a as u64,
-        b as u64,
-    );
 }
 
 /// The same of two slots that are to have different blocks.
@@ -271,7 +222,7 @@ fn put_pair_cure(out: &mut Saying, place: &Place, wanted: &Row, pair: u8)
         let (a, b) = PAIRS[n];
         let state = slot_state(place.row, a);
         if !is_empty(state) && are_alike(state, slot_state(place.row, b)) {
-            put_comparing(out, a, b)
+            out.put2(Phrase::TellsApart, Fact::Index(a), Fact::Index(b))
         }
     }
 }

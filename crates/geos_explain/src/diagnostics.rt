@@ -12,9 +12,9 @@ const MOST: usize = 20;
 /// Writes the line of a refusal, with the line of the instruction, or without a text its routine and pc.
 fn put_line(out: &mut Saying, file: &str, image: &Image, refusal: &Refusal) {
     out.text(file);
-    match out.lines.get(usize::from(refusal.pc)) {
+    match out.lines.get(usize::from(refusal.pc)).copied() {
         Some(line) => {
-            out.number(":", *line as u64);
+            out.number(":", line as u64);
         }
         None => {
             if refusal.routine < image.count() {

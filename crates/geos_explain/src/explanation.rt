@@ -140,7 +140,7 @@ fn is_line_of(lines: &[u32], pc: u16, number: usize) -> bool
 /// A line with its number. If `pc`, the next instruction, is on it, the notes on the instruction follow.
 fn put_line(out: &mut Saying, explained: &Explained, pc: u16, number: usize, text: &[u8]) {
     out.number("", number as u64).name("\t", text);
-    if is_line_of(out.lines, pc, number) && pc < explained.image.len() {
+    if is_line_of(out.lines.as_slice(), pc, number) && pc < explained.image.len() {
         put_noted_at(out, explained, pc)
     } else {
         out.text("\n");
@@ -169,7 +169,7 @@ fn all_lines(out: &mut Saying, text: &[u8], explained: &Explained) {
         rest = behind;
         number += 1;
         put_line(out, explained, pc, number, text);
-        pc = next_pc(out.lines, pc, number);
+        pc = next_pc(out.lines.as_slice(), pc, number);
     }
 }
 

@@ -112,6 +112,19 @@ impl<'a> Filled<'a> {
         }
     }
 
+    /// The instructions of a routine, by its index; none if there is no such routine.
+    pub fn points_of(&self, r: u16) -> &[Point] {
+        if r >= self.count() {
+            return &[];
+        }
+        let start = usize::from(self.start(r));
+        let end = start + usize::from(self.routine(r).count);
+        match self.graph.image.points().get(start..end) {
+            Some(points) => points,
+            None => &[],
+        }
+    }
+
     /// The potential at a pc.
     pub fn potential(&self, pc: u16) -> &Potential
         requires { pc < length self.now.points }

@@ -9,9 +9,10 @@ ghost use Rattle.geos_explain.specs.Forgotten.{moves, moves_at, if_round, IsMove
 ghost use Rattle.geos_explain.specs.declared.forgotten.Item.TheVariants.{Bound};
 
 use crate::led::led_from;
+use crate::phrases::Phrase;
 use crate::place::Place;
 use crate::routines::{comes_alike, is_inside};
-use crate::saying::Saying;
+use crate::saying::{Fact, Saying};
 use crate::ways::forgets;
 use geos_flow::{Counting, Edge, Heading, Marks, end_of, is_marked};
 use geos_image::{Instr, Opcode, Pointer, Row, SlotState};
@@ -202,13 +203,13 @@ fn put_moved(out: &mut Saying, place: &Place, w: u8, most: u16, from: u16)
     requires { IsMovedRound (place_of place.now) (Bound w most) w from }
 {
     if let Some(point) = place.image.place(from) {
-        out.say_of("; % at@", point.instr.opcode.word().as_bytes(), from as u64)
-            .say3(
-                " changes w# in each iteration, and w#<=# is not known then",
-                w as u64,
-                w as u64,
-                most as u64,
-            );
+        let word = Fact::Index(w);
+        out.put2(
+            Phrase::WordAt,
+            Fact::Word(point.instr.opcode),
+            Fact::Line(from),
+        );
+        out.put3(Phrase::ChangesInLoop, word, word, Fact::Count(most))
     }
 }
 

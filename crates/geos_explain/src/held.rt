@@ -6,9 +6,10 @@ ghost use Rattle.geos_explain.specs.Held.{is_held_at};
 ghost use Rattle.geos_explain.specs.Since.{IsSaidOf};
 
 use crate::lacks::{lacking, put_lacking};
+use crate::phrases::Phrase;
 use crate::place::Place;
 use crate::public::put_missing;
-use crate::saying::{Saying, either};
+use crate::saying::{Fact, Saying, choose};
 use crate::since::{Since, held_since};
 use crate::uses::unlocking;
 use geos_image::Row;
@@ -38,7 +39,7 @@ fn is_held_at(which: HeldAt, place: &Place, a: u8) -> bool
 fn put_slots_at(out: &mut Saying, which: HeldAt, place: &Place) {
     for a in 0..4 {
         if is_held_at(which, place, a) {
-            out.slot("", a, slot_state(place.row, a));
+            out.slot(a, slot_state(place.row, a))
         }
     }
 }
@@ -48,10 +49,10 @@ fn put_since(out: &mut Saying, place: &Place, a: u8, since: Since)
     requires { IsSaidOf (place_of place.now) a since }
 {
     if since.entry {
-        out.say("; s# is locked since the in line", a as u64);
+        out.put1(Phrase::LockedSinceEntry, Fact::Index(a));
         put_again(out, since.from.is_some())
     } else if let Some(from) = since.from {
-        out.say2("; s# is locked since@", a as u64, from as u64);
+        out.put2(Phrase::LockedSince, Fact::Index(a), Fact::Line(from));
         put_again(out, since.again)
     }
 }
@@ -59,7 +60,7 @@ fn put_since(out: &mut Saying, place: &Place, a: u8, since: Since)
 /// Or since another place.
 fn put_again(out: &mut Saying, again: bool) {
     if again {
-        out.text(" or another place");
+        out.put(Phrase::OrAnotherPlace)
     }
 }
 
@@ -71,16 +72,11 @@ fn put_held_wish(out: &mut Saying, which: HeldAt, place: &Place, a: u8, entry: b
     }
     match which {
         HeldAt::Return => {
-            out.text(either(place.routine.public, ": ", ": say it in the out line, or "))
-                .say_of(
-                    "% s# before the return",
-                    unlocking(state).as_bytes(),
-                    a as u64,
-                );
+            let public = place.routine.public;
+            let words = choose(public, Phrase::UnlockBeforeReturn, Phrase::SayOrUnlock);
+            out.put2(words, Fact::Phrase(unlocking(state)), Fact::Index(a))
         }
-        HeldAt::Write => {
-            out.text(either(entry, ": unlock it in the caller", ""));
-        }
+        HeldAt::Write => out.put(choose(entry, Phrase::UnlockInCaller, Phrase::Nothing)),
     }
 }
 
@@ -101,17 +97,17 @@ pub(crate) fn put_exit(out: &mut Saying, place: &Place) {
     put_slots_at(out, HeldAt::Return, place);
     if out.len() == before {
         put_lacking(out, place.row, exit);
-        return out.put_are(before, " required by the out line, and not known here");
+        return out.put_are(before, Phrase::RequiredByOut);
     }
-    out.put_are(before, " still locked at the return");
+    out.put_are(before, Phrase::StillLocked);
     for a in 0..4 {
         put_since_at(out, HeldAt::Return, place, a);
     }
     put_missing(out, place.row, exit);
     out.put_also(
         &lacking(place.row, exit),
-        "",
-        " required by the out line, and not known here",
+        Phrase::Nothing,
+        Phrase::RequiredByOut,
     )
 }
 
@@ -125,11 +121,11 @@ fn borrows(row: &Row) -> bool {
 }
 
 /// What to do with slots that are locked where the file is written.
-fn writing_wish(row: &Row, one: bool) -> &'static str {
+fn writing_wish(row: &Row, one: bool) -> Phrase {
     if borrows(row) {
-        "write it in a routine that borrows no slot"
+        Phrase::WriteElsewhere
     } else {
-        either(one, "unlock it before", "unlock them before")
+        choose(one, Phrase::UnlockItBefore, Phrase::UnlockThemBefore)
     }
 }
 
@@ -138,9 +134,8 @@ pub(crate) fn put_written(out: &mut Saying, place: &Place) {
     let before = out.len();
     put_slots_at(out, HeldAt::Write, place);
     let one = out.is_one(before);
-    out.text(either(one, " is", " are"))
-        .text(" locked where the file is written: ")
-        .text(writing_wish(place.row, one));
+    out.put_are(before, Phrase::LockedAtWrite);
+    out.put(writing_wish(place.row, one));
     for a in 0..4 {
         put_since_at(out, HeldAt::Write, place, a);
     }

@@ -97,7 +97,7 @@ pub(crate) fn put_lacking(out: &mut Saying, known: &Row, wanted: &Row) {
     out.put_items(&lacking(known, wanted));
     for a in 0..4 {
         if is_held_unwanted(slot_state(known, a), slot_state(wanted, a)) {
-            out.slot("", a, SlotState::Empty);
+            out.slot(a, SlotState::Empty)
         }
     }
 }

@@ -28,6 +28,7 @@ mod held;
 mod lacks;
 mod led;
 mod notes;
+mod phrases;
 mod place;
 mod public;
 mod refusals;

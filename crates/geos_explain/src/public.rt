@@ -5,6 +5,7 @@ ghost use Rattle.geos_verify.specs.Rows.{is_empty};
 ghost use Rattle.geos_explain.specs.Public.{own_only, own_slots, marked_only, marked_slots, held_pairs, known_pointers};
 ghost use Rattle.geos_explain.specs.Public.{missing_only, missing_slots, kept_only, kept_slots, NoFaultsWhereItMayEnterAndLeave};
 
+use crate::phrases::Phrase;
 use crate::saying::Saying;
 use geos_image::{Routine, Row, SlotState};
 use geos_verify::is_empty;
@@ -135,51 +136,37 @@ fn kept_slots(entry: &Row, exit: &Row) -> Row
 
 /// Slots that the row has borrowed are missing in the exit row.
 pub(crate) fn put_missing(out: &mut Saying, row: &Row, exit: &Row) {
-    out.put_also(
-        &missing_slots(row, exit),
-        "",
-        " borrowed from the caller, and missing in the out line",
-    )
+    let missing = missing_slots(row, exit);
+    out.put_also(&missing, Phrase::Nothing, Phrase::MissingInOut)
 }
 
 /// What the entry row requires that not every caller from outside has.
 fn put_entry_faults(out: &mut Saying, entry: &Row) {
-    out.put_also(
-        &own_slots(entry),
-        " in the in line",
-        " not borrowed: lock the block in this routine, or omit public",
-    );
+    out.put_also(&own_slots(entry), Phrase::InInLine, Phrase::NotBorrowed);
     out.put_also(
         &marked_slots(entry),
-        " in the in line",
-        " marked, which no caller from outside ensures: mark by VDIRTY",
+        Phrase::InInLine,
+        Phrase::MarkedByNoCaller,
     );
     out.put_also(
         &held_pairs(entry),
-        " in the in line",
-        " not ensured by callers from outside, who may pass one block twice: use SNE",
+        Phrase::InInLine,
+        Phrase::NotEnsuredApart,
     );
-    out.put_also(
-        &known_pointers(entry),
-        " in the in line",
-        " not passed by callers from outside: fetch pointers in this routine",
-    )
+    out.put_also(&known_pointers(entry), Phrase::InInLine, Phrase::NotPassed)
 }
 
 /// How a public routine begins and ends, and what the rows of this one say otherwise.
 pub(crate) fn put_public(out: &mut Saying, routine: &Routine) {
-    out.text(" a public routine begins and ends with empty or borrowed slots and stale pointers");
+    out.put(Phrase::PublicRoutine);
     put_entry_faults(out, &routine.entry);
     put_missing(out, &routine.entry, &routine.exit);
-    out.put_also(
-        &kept_slots(&routine.entry, &routine.exit),
-        " in the out line",
-        " not borrowed in both lines: unlock before the return",
-    );
+    let kept = kept_slots(&routine.entry, &routine.exit);
+    out.put_also(&kept, Phrase::InOutLine, Phrase::NotBorrowedInBoth);
     out.put_also(
         &known_pointers(&routine.exit),
-        " in the out line",
-        " not taken by callers from outside: leave pointers out",
+        Phrase::InOutLine,
+        Phrase::NotTaken,
     )
 }
 

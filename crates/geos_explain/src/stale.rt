@@ -9,8 +9,9 @@ use crate::cures::put_kept_wish;
 use crate::filled::Filled;
 use crate::finding::{End, Finding, Loss, Meeting};
 use crate::forgotten::Item;
+use crate::phrases::Phrase;
 use crate::place::Place;
-use crate::saying::{Saying, either};
+use crate::saying::{Fact, Saying, choose};
 use crate::trace::traced;
 use crate::ways::{Followed, Way, forgets, is_stale, sets, with_hint};
 use geos_flow::end_of;
@@ -33,17 +34,14 @@ fn refused_on(image: &Filled, way: Way) -> Option<u16>
 }
 
 /// Words, the source of a path, and whether it begins with a refusal.
-fn put_way(out: &mut Saying, place: &Place, words: &str, way: Way) {
-    out.text(words);
-    match way {
-        Way::Entry => {
-            out.text(" the in line");
-        }
-        Way::Along(edge) => {
-            let refused = refused_on(place.image, way).is_some();
-            out.at(either(refused, " the refusal at", ""), edge.from);
-        }
-    }
+fn put_way(out: &mut Saying, place: &Place, words: Phrase, way: Way) {
+    out.put(words);
+    let Way::Along(edge) = way else {
+        return out.put(Phrase::TheInLine);
+    };
+    let refused = refused_on(place.image, way).is_some();
+    let from = choose(refused, Phrase::TheRefusalAt, Phrase::Fact);
+    out.put1(from, Fact::Line(edge.from))
 }
 
 /// The name of a routine, if there is one.
@@ -58,60 +56,42 @@ pub(crate) fn name_at<'a>(image: &'a Filled, r: u16) -> &'a [u8] {
 /// What the instruction did to a pointer by what it does to its slot.
 fn put_use_loss(out: &mut Saying, slot: SlotUse, p: u8) {
     let words = match slot {
-        SlotUse::Moves => " may have moved its chunk: fetch p",
-        SlotUse::Unlocks(_) => " unlocked its block: lock it and fetch p",
-        SlotUse::MovesGroup => " moves items, and its item may be one: fetch p",
-        _ => " leaves it stale: fetch p",
+        SlotUse::Moves => Phrase::MayHaveMoved,
+        SlotUse::Unlocks(_) => Phrase::UnlockedItsBlock,
+        SlotUse::MovesGroup => Phrase::MovesItems,
+        _ => Phrase::LeavesItStale,
     };
-    out.text(words).say("# again", p as u64);
+    out.put1(words, Fact::Index(p))
 }
 
 /// It moved chunks of slot a, and the pointer leads into slot b.
 fn put_move_loss(out: &mut Saying, p: u8, a: u8, b: u8) {
-    out.say3(
-        " may have moved its chunk, since s# and s# may have one block: fetch p# again",
-        a as u64,
-        b as u64,
-        p as u64,
-    )
-    .say2(
-        ", or tell the slots apart first by SNE s# s#",
-        a as u64,
-        b as u64,
-    );
+    let (p, a, b) = (Fact::Index(p), Fact::Index(a), Fact::Index(b));
+    out.put3(Phrase::MayHaveMovedOther, a, b, p);
+    out.put2(Phrase::OrTellApart, a, b)
 }
 
 /// The instruction was to set the pointer and was refused, and went to a pc; what helps. If other instructions are on the path from there, it
 /// is to be fetched after them.
 fn put_refusal_cure(out: &mut Saying, place: &Place, to: usize, meeting: Option<Meeting>) {
-    match meeting {
-        None if to != usize::from(place.pc) => {
-            out.text("fetch it again before this");
+    let Some(m) = meeting else {
+        let here = to == usize::from(place.pc);
+        return out.put(choose(here, Phrase::AnotherLabel, Phrase::FetchBefore));
+    };
+    match m.lost {
+        Way::Along(lost) if to != usize::from(m.to) => {
+            out.put1(Phrase::FetchAfter, Fact::Line(lost.from))
         }
-        Some(
-            Meeting {
-                to: end,
-                lost: Way::Along(lost),
-                ..
-            },
-        ) if to != usize::from(end) => {
-            out.at("fetch it again after", lost.from);
-        }
-        _ => {
-            out.text("give it another label");
-        }
+        _ => out.put(Phrase::AnotherLabel),
     }
 }
 
 /// The instruction was to set the pointer and was refused, and went to a pc; and what helps. At a return nothing does but to do without the
 /// pointer.
 fn put_own_refusal(out: &mut Saying, place: &Place, p: u8, to: usize, meeting: Option<Meeting>) {
-    out.text(" does not set it if it is refused: ");
+    out.put(Phrase::NotSetIfRefused);
     if let Opcode::Ret = place.i.opcode {
-        out.say(
-            "leave p# out of the out line, and fetch it after the CALL of this routine",
-            p as u64,
-        );
+        out.put1(Phrase::LeaveOutOfOut, Fact::Index(p))
     } else {
         put_refusal_cure(out, place, to, meeting)
     }
@@ -119,10 +99,10 @@ fn put_own_refusal(out: &mut Saying, place: &Place, p: u8, to: usize, meeting: O
 
 /// A CALL lost the pointer, which leads so before it.
 fn put_call_loss(out: &mut Saying, place: &Place, item: Item, r: u16, row: &Row) {
-    out.say_of(
-        " leaves only what the out line of % says",
+    out.put_of(
+        Phrase::LeavesOnlyOut,
         name_at(place.image, r),
-        0,
+        Fact::Nothing,
     );
     put_kept_wish(out, place, item, r, row)
 }
@@ -148,7 +128,7 @@ fn put_lost_by(out: &mut Saying, place: &Place, p: u8, loss: Loss, meeting: Opti
     let edge = loss.edge;
     if let Some(point) = place.image.place(edge.from) {
         let i = &point.instr;
-        out.say_of("; % at@", i.opcode.word().as_bytes(), edge.from as u64);
+        out.put2(Phrase::WordAt, Fact::Word(i.opcode), Fact::Line(edge.from));
         if edge.branch && sets(i, i.opcode.uses().pointer, p) {
             put_own_refusal(out, place, p, end_of(edge, i), meeting)
         } else {
@@ -163,59 +143,38 @@ fn put_other_label(out: &mut Saying, place: &Place, meeting: Option<Meeting>) {
     if let Some(m) = meeting
         && let Some(from) = refused_on(place.image, m.lost)
     {
-        out.say(", or give@ another label", from as u64);
+        out.put1(Phrase::OrAnotherLabel, Fact::Line(from))
     }
 }
 
 /// The pointer is not known from the routine's beginning on; a caller that is a routine may bring it.
 fn put_unset(out: &mut Saying, place: &Place, p: u8, meeting: Option<Meeting>) {
-    out.say(
-        "; p# is not set on the path from the start of the routine: fetch it first",
-        p as u64,
-    );
+    out.put1(Phrase::NotSetFromStart, Fact::Index(p));
     put_other_label(out, place, meeting);
     if !place.routine.public {
-        out.say(", or say p# in the in line", p as u64);
+        out.put1(Phrase::OrSayPointer, Fact::Index(p))
     }
 }
 
 /// No path leads to a pc, or here.
 fn put_unreached(out: &mut Saying, place: &Place, to: u16) {
-    if to == place.pc {
-        out.text("; no path leads here: take it out");
-    } else {
-        out.say("; no path leads to@: take it out", to as u64);
-    }
-}
-
-/// Each path to a pc brings the pointer, which is not known there.
-fn put_merged(out: &mut Saying, p: u8, to: u16) {
-    out.say2(
-        "; p# is known on each path to@, and not there, as if it leads into two slots: fetch it again",
-        p as u64,
-        to as u64,
+    let words = choose(
+        to == place.pc,
+        Phrase::NoPathLeadsHere,
+        Phrase::NoPathLeadsTo,
     );
+    out.put1(words, Fact::Line(to))
 }
 
 /// A way brings the pointer into an empty slot.
 fn put_nowhere_by(out: &mut Saying, place: &Place, p: u8, way: Way, slot: u8) {
-    put_way(out, place, "; from", way);
-    out.say2(
-        " p# leads into s#, which is empty there: ",
-        p as u64,
-        slot as u64,
-    );
-    match way {
-        Way::Entry => {
-            out.say(
-                "say in the in line what s# has, or fetch the pointer first",
-                slot as u64,
-            );
-        }
-        Way::Along(_) => {
-            out.text("fetch it again");
-        }
-    }
+    put_way(out, place, Phrase::SemicolonFrom, way);
+    out.put2(Phrase::LeadsIntoEmpty, Fact::Index(p), Fact::Index(slot));
+    let words = match way {
+        Way::Entry => Phrase::SayWhatSlotHas,
+        Way::Along(_) => Phrase::FetchAgain,
+    };
+    out.put1(words, Fact::Index(slot))
 }
 
 /// Why the pointer is not known, if no instruction is found that lost it.
@@ -223,12 +182,10 @@ fn put_end(out: &mut Saying, place: &Place, p: u8, found: Finding)
     requires { IsFinding (place_of place.now) p found }
 {
     match found.end {
-        None => {
-            out.text(": fetch it again");
-        }
+        None => out.put(Phrase::ColonFetchAgain),
         Some(End::Unset) => put_unset(out, place, p, found.meeting),
         Some(End::Unreached(to)) => put_unreached(out, place, to),
-        Some(End::Merged(to)) => put_merged(out, p, to),
+        Some(End::Merged(to)) => out.put2(Phrase::KnownOnEachPath, Fact::Index(p), Fact::Line(to)),
         Some(End::Nowhere(way, slot)) => put_nowhere_by(out, place, p, way, slot),
     }
 }
@@ -236,13 +193,12 @@ fn put_end(out: &mut Saying, place: &Place, p: u8, found: Finding)
 /// Ways meet of which one brings the pointer and another does not.
 fn put_meeting(out: &mut Saying, place: &Place, p: u8, m: Meeting) {
     if m.to == place.pc {
-        out.text(";");
+        out.put1(Phrase::SemicolonPointer, Fact::Index(p))
     } else {
-        out.at("; at", m.to);
+        out.put2(Phrase::AtPointer, Fact::Line(m.to), Fact::Index(p))
     }
-    out.number(" p", p as u64);
-    put_way(out, place, " is known from", m.known);
-    put_way(out, place, ", and not from", m.lost)
+    put_way(out, place, Phrase::IsKnownFrom, m.known);
+    put_way(out, place, Phrase::AndNotFrom, m.lost)
 }
 
 /// Where paths join of which one brings the pointer and another does not, and what lost the pointer, or why it is not known.
@@ -284,12 +240,12 @@ pub(crate) fn stale_used(place: &Place) -> [Option<u8>; 2] {
 pub(crate) fn put_stale(out: &mut Saying, place: &Place) {
     let [first, second] = stale_used(place);
     if let Some(p) = first {
-        out.number(" p", p as u64);
+        out.put1(Phrase::Pointer, Fact::Index(p))
     }
     if let Some(p) = second {
-        out.number(" p", p as u64);
+        out.put1(Phrase::Pointer, Fact::Index(p))
     }
-    out.text(" may be stale here");
+    out.put(Phrase::MayBeStale);
     put_traced(out, place, first);
     put_traced(out, place, second)
 }

@@ -1,8 +1,9 @@
 //! The sentences on an edge that is not paid for.
 
 use crate::notes::put_steps;
+use crate::phrases::Phrase;
 use crate::place::Place;
-use crate::saying::{Saying, either};
+use crate::saying::{Fact, Saying, choose};
 use geos_image::{Opcode, Potential};
 use geos_verify::{Asked, asked_along, asked_branching, branches, falls_through};
 
@@ -11,30 +12,23 @@ fn put_asked(out: &mut Saying, asked: &Asked, p: &Potential) {
     let left = asked.left(p);
     if asked.steps <= left {
         put_steps(out, asked.steps, &asked.coefficients);
-        out.text(" steps are required from here, and");
+        out.put(Phrase::StepsRequiredAnd);
         put_steps(out, left, &p.coefficients);
-        out.text(" are left");
-        return;
+        return out.put(Phrase::AreLeft);
     }
-    out.number(" ", asked.steps)
-        .text(either(asked.steps == 1, " step is", " steps are"))
-        .number(" required from here, and ", left)
-        .text(either(left == 1, " is left", " are left"));
+    let verb = choose(asked.steps == 1, Phrase::StepIs, Phrase::StepsAre);
+    let (steps, left_steps) = (Fact::Number(asked.steps), Fact::Number(left));
+    out.put3(Phrase::StepsRequired, steps, Fact::Phrase(verb), left_steps);
+    out.put(choose(left == 1, Phrase::IsLeft, Phrase::AreLeft))
 }
 
 /// The sentence if both edges are paid for: a return takes a step; after a call no counter may pay that the routine touches.
 fn put_last(out: &mut Saying, place: &Place) {
     match place.i.opcode {
-        Opcode::Ret => {
-            out.text(" a return takes a step, and none is left");
-        },
+        Opcode::Ret => out.put(Phrase::ReturnTakesStep),
         Opcode::Call => if let Some(next) = place.image.point(place.pc + 1) {
             let callee = place.image.routine(place.i.imm);
-            out.say_of(
-                " % touches a counter that pays after the call:",
-                callee.name_text(),
-                0,
-            );
+            out.put_of(Phrase::TouchesPaying, callee.name_text(), Fact::Nothing);
             for k in 0..4 {
                 if next.potential.coefficients[k] != 0 {
                     out.number(" k", k as u64);

@@ -6,8 +6,9 @@ ghost use Rattle.geos_verify.specs.Uses.{OffsetFits};
 ghost use Rattle.geos_explain.specs.Uses.{nowhere_only, leading_nowhere};
 
 use crate::forgotten::Item;
+use crate::phrases::Phrase;
 use crate::place::Place;
-use crate::saying::{Saying, either};
+use crate::saying::{Fact, Saying, choose};
 use crate::ways::sets;
 use geos_image::{Instr, Opcode, Pointer, Row, SlotState};
 use geos_opcodes::{Kind, Offset, PointerUse, SlotUse, Width};
@@ -46,8 +47,8 @@ pub(crate) fn put_nowhere(out: &mut Saying, row: &Row) {
     let before = out.len();
     out.put_items(&leading_nowhere(row));
     let one = out.is_one(before);
-    out.text(either(one, " leads into an empty slot", " lead into empty slots"))
-        .text(": lock a block into the slot first, or say in the in line what the slot has");
+    out.put(choose(one, Phrase::LeadsNowhere, Phrase::LeadNowhere));
+    out.put(Phrase::LockOrSayFirst)
 }
 
 /// The slot that a pointer leads into.
@@ -68,10 +69,10 @@ pub(crate) fn changed_slot(i: &Instr, row: &Row) -> u8 {
 }
 
 /// The instruction that marks the block of a slot.
-pub(crate) fn mark_word(state: SlotState) -> &'static str {
+pub(crate) fn mark_word(state: SlotState) -> Phrase {
     match state {
-        SlotState::Db { .. } => "IDIRTY",
-        _ => "VDIRTY",
+        SlotState::Db { .. } => Phrase::Idirty,
+        _ => Phrase::Vdirty,
     }
 }
 
@@ -79,98 +80,92 @@ pub(crate) fn mark_word(state: SlotState) -> &'static str {
 pub(crate) fn put_unmarked(out: &mut Saying, i: &Instr, row: &Row) {
     let a = changed_slot(i, row);
     let state = slot_state(row, a);
-    out.slot("", a, state).say_of(
-        " is changed here, and may not be marked: % s# before this marks it",
-        mark_word(state).as_bytes(),
-        a as u64,
-    );
+    let marks = Fact::Phrase(mark_word(state));
+    out.put3(
+        Phrase::ChangedUnmarked,
+        Fact::Slot(a, state),
+        marks,
+        Fact::Index(a),
+    )
 }
 
 /// What empties a slot.
-pub(crate) fn unlocking(state: SlotState) -> &'static str {
+pub(crate) fn unlocking(state: SlotState) -> Phrase {
     match state {
-        SlotState::Empty => "",
-        SlotState::Mem => "MUNLOCK",
-        SlotState::Vm { .. } => "VUNLOCK",
-        SlotState::Db { .. } => "IUNLOCK",
+        SlotState::Empty => Phrase::Nothing,
+        SlotState::Mem => Phrase::Munlock,
+        SlotState::Vm { .. } => Phrase::Vunlock,
+        SlotState::Db { .. } => Phrase::Iunlock,
     }
 }
 
 /// A block is locked into a slot that has one.
 pub(crate) fn put_held(out: &mut Saying, i: &Instr, row: &Row) {
     let state = slot_state(row, i.a);
-    out.slot("", i.a, state);
+    let held = Fact::Slot(i.a, state);
     if state.is_own() {
-        out.say_of(
-            " is locked here, and an empty slot is required: use another slot, or % s# first",
-            unlocking(state).as_bytes(),
-            i.a as u64,
-        );
+        let unlocks = Fact::Phrase(unlocking(state));
+        out.put3(Phrase::LockedIntoHeld, held, unlocks, Fact::Index(i.a))
     } else {
-        out.text(" is borrowed from the caller, and an empty slot is required: use another slot");
+        out.put1(Phrase::LockedIntoBorrowed, held)
     }
 }
 
 /// A block of this kind is required.
-fn kind_wish(kind: Kind, marks: bool) -> &'static str {
+fn kind_wish(kind: Kind, marks: bool) -> Phrase {
     match kind {
-        Kind::MemBlock => ", and mem is required",
-        Kind::VmBlock => either(
-            marks,
-            ", and vm, vm!, vm@ or vm@! is required",
-            ", and vm or vm! is required",
-        ),
-        Kind::DbGroup => ", and db or db! is required",
+        Kind::MemBlock => Phrase::MemRequired,
+        Kind::VmBlock => choose(marks, Phrase::VmRequired, Phrase::OwnVmRequired),
+        Kind::DbGroup => Phrase::DbRequired,
     }
 }
 
 /// What marks what a slot has, if it has a mark.
-fn marking(state: SlotState) -> &'static str {
+fn marking(state: SlotState) -> Phrase {
     match state {
-        SlotState::Db { .. } => "IDIRTY marks it",
-        SlotState::Vm { .. } => "VDIRTY marks it",
-        _ => "global memory needs no mark",
+        SlotState::Db { .. } => Phrase::IdirtyMarks,
+        SlotState::Vm { .. } => Phrase::VdirtyMarks,
+        _ => Phrase::NeedsNoMark,
     }
 }
 
 /// Two slots do not have blocks of one kind, and what helps.
 fn put_compared(out: &mut Saying, i: &Instr, row: &Row) {
     let (state, other) = (slot_state(row, i.a), slot_state(row, i.b));
-    out.slot("", i.a, state)
-        .slot("", i.b, other)
-        .text(" are compared here, and blocks of one kind are required: ")
-        .text(either(
-            is_empty(state) || is_empty(other),
-            "lock them first",
-            "blocks of two kinds differ, so leave SNE out",
-        ));
+    let empty = is_empty(state) || is_empty(other);
+    let cure = Fact::Phrase(choose(empty, Phrase::LockThemFirst, Phrase::LeaveSneOut));
+    out.put3(
+        Phrase::AreCompared,
+        Fact::Slot(i.a, state),
+        Fact::Slot(i.b, other),
+        cure,
+    )
 }
 
-/// What the instruction requires of a slot that has a block of another kind, and what helps.
-fn wish(
-    slot: SlotUse,
-    state: SlotState,
-) -> (&'static str, &'static str, &'static str, &'static str) {
+/// A slot has a block of another kind than the instruction requires, and what helps.
+fn put_other_kind(out: &mut Saying, slot: SlotUse, a: u8, state: SlotState) {
+    let held = Fact::Slot(a, state);
     match slot {
-        SlotUse::Unlocks(_) if !state.is_own() => (
-            " is borrowed from the caller, which unlocks it: take this out",
-            "",
-            "",
-            "",
-        ),
-        SlotUse::Unlocks(kind) => (
-            " is locked here",
-            kind_wish(kind, false),
-            ": ",
-            unlocking(state),
-        ),
-        SlotUse::Marks(kind) => (
-            " is locked here",
-            kind_wish(kind, true),
-            ": ",
-            marking(state),
-        ),
-        _ => ("", "", "", ""),
+        SlotUse::Unlocks(_) if !state.is_own() => out.put1(Phrase::CallerUnlocks, held),
+        SlotUse::Unlocks(kind) => {
+            let wanted = Fact::Phrase(kind_wish(kind, false));
+            out.put3(
+                Phrase::UnlocksOther,
+                held,
+                wanted,
+                Fact::Phrase(unlocking(state)),
+            )
+        }
+        SlotUse::Marks(kind) => {
+            let wanted = Fact::Phrase(kind_wish(kind, true));
+            out.put3(
+                Phrase::MarksOther,
+                held,
+                wanted,
+                Fact::Phrase(marking(state)),
+            )
+        }
+        _ => out.slot(a, state),
     }
 }
 
@@ -183,21 +178,10 @@ pub(crate) fn put_slot(out: &mut Saying, i: &Instr, row: &Row) -> bool {
         return true;
     }
     if is_empty(state) {
-        out.number(" s", i.a as u64)
-            .text(" is empty here, and a locked block is required");
+        out.put1(Phrase::IsEmptyHere, Fact::Index(i.a));
         return false;
     }
-    let (words, kind, then, word) = wish(slot, state);
-    let does = match slot {
-        SlotUse::Unlocks(_) => either(state.is_own(), " unlocks it", ""),
-        _ => "",
-    };
-    out.slot("", i.a, state)
-        .text(words)
-        .text(kind)
-        .text(then)
-        .text(word)
-        .text(does);
+    put_other_kind(out, slot, i.a, state);
     true
 }
 
@@ -247,40 +231,53 @@ pub(crate) fn past_at(i: &Instr, row: &Row) -> Past
 
 /// So many bytes are required at a pointer, and so many are known.
 fn put_short(out: &mut Saying, p: u8, wanted: u32, least: u16) {
-    out.number(" ", wanted as u64)
-        .text(either(wanted == 1, " byte is", " bytes are"))
-        .say2(" required at p#, and #", p as u64, least as u64)
-        .text(either(least == 1, " is known", " are known"));
+    let verb = choose(wanted == 1, Phrase::ByteIs, Phrase::BytesAre);
+    out.put2(
+        Phrase::Facts,
+        Fact::Number(wanted as u64),
+        Fact::Phrase(verb),
+    );
+    let known = choose(least == 1, Phrase::IsKnown, Phrase::AreKnown);
+    out.put3(
+        Phrase::RequiredAtPointer,
+        Fact::Index(p),
+        Fact::Count(least),
+        Fact::Phrase(known),
+    )
 }
 
 /// What index is low enough for so many bytes, if one is.
 fn put_low_index(out: &mut Saying, i: &Instr, wide: u16, least: u16) {
     if wide <= least {
-        out.say2(
-            " w#<=# is required, since ",
-            i.c as u64,
-            (least - wide) as u64,
-        );
+        out.put2(
+            Phrase::BoundRequired,
+            Fact::Index(i.c),
+            Fact::Count(least - wide),
+        )
     } else {
-        out.text(" no index is low enough, since ");
+        out.put(Phrase::NoIndexIsLow)
     }
 }
 
 /// What is known of an index.
 fn put_index(out: &mut Saying, w: u8, most: u16) {
     if most == u16::MAX {
-        out.number(", and nothing is known of w", w as u64);
+        out.put1(Phrase::NothingKnownOf, Fact::Index(w))
     } else {
-        out.say2(", and w#<=# is known", w as u64, most as u64);
+        out.put2(Phrase::BoundKnown, Fact::Index(w), Fact::Count(most))
     }
 }
 
 /// An index may be too high for the bytes at its pointer.
 fn put_high(out: &mut Saying, i: &Instr, most: u16, wide: u16, least: u16) {
     put_low_index(out, i, wide, least);
-    out.number("", least as u64)
-        .text(either(least == 1, " byte is", " bytes are"))
-        .number(" known at p", i.b as u64);
+    let verb = Fact::Phrase(choose(least == 1, Phrase::ByteIs, Phrase::BytesAre));
+    out.put3(
+        Phrase::KnownAtPointer,
+        Fact::Count(least),
+        verb,
+        Fact::Index(i.b),
+    );
     put_index(out, i.c, most)
 }
 
@@ -315,12 +312,9 @@ pub(crate) fn past_item(i: &Instr, row: &Row, past: Past) -> Item {
 
 /// Whether an instruction of the routine sets the pointer.
 fn is_set_within(place: &Place, p: u8) -> bool {
-    let start = place.image.start(place.r);
-    for n in 0..place.routine.count {
-        if let Some(point) = place.image.point(start + n) {
-            if sets(&point.instr, point.instr.opcode.uses().pointer, p) {
-                return true;
-            }
+    for point in place.image.points_of(place.r) {
+        if sets(&point.instr, point.instr.opcode.uses().pointer, p) {
+            return true;
         }
     }
     false
@@ -329,40 +323,26 @@ fn is_set_within(place: &Place, p: u8) -> bool {
 /// More bytes are to be required where the pointer is set, or in the `in` line that brings it.
 pub(crate) fn put_ask_wish(out: &mut Saying, place: &Place, p: u8, wanted: u32) {
     if wanted >= 65_536 {
-        out.text("; no chunk is so long");
-        return;
+        return out.put(Phrase::NoChunkIsSoLong);
     }
-    match pointer_at(&place.routine.entry, p) {
-        Some(pointer) if !is_set_within(place, p) => put_say_wish(out, p, pointer.slot, wanted),
-        _ => put_set_wish(out, p, wanted),
+    let bytes = Fact::Number(wanted as u64);
+    if let Some(pointer) = pointer_at(&place.routine.entry, p)
+        && !is_set_within(place, p)
+    {
+        return out.put3(
+            Phrase::SayPointerInLine,
+            Fact::Index(p),
+            Fact::Index(pointer.slot),
+            bytes,
+        );
     }
-}
-
-/// So many bytes are to be required in the `in` line.
-fn put_say_wish(out: &mut Saying, p: u8, slot: u8, wanted: u32) {
-    out.say3(
-        "; say p#=s#:# in the in line",
-        p as u64,
-        slot as u64,
-        wanted as u64,
-    );
-}
-
-/// So many bytes are to be required where the pointer is set.
-fn put_set_wish(out: &mut Saying, p: u8, wanted: u32) {
-    out.number("; ask for ", wanted as u64)
-        .text(either(wanted == 1, " byte", " bytes"))
-        .say(" where p# is set", p as u64);
+    let unit = Fact::Phrase(choose(wanted == 1, Phrase::Byte, Phrase::Bytes));
+    out.put3(Phrase::AskWhereSet, bytes, unit, Fact::Index(p))
 }
 
 /// A word is to be bounded before the instruction.
 pub(crate) fn put_bounding(out: &mut Saying, w: u8, most: u16) {
-    out.say2("; CHK w# # L before this bounds it", w as u64, most as u64);
-}
-
-/// Another instruction tests the index.
-fn put_tested(out: &mut Saying, tested: Opcode) {
-    out.say_of(", or % tests it", tested.word().as_bytes(), 0);
+    out.put2(Phrase::ChkBounds, Fact::Index(w), Fact::Count(most))
 }
 
 /// What helps there, if a CALL `forgets` what is required, too.
@@ -376,6 +356,6 @@ pub(crate) fn put_past_wish(out: &mut Saying, place: &Place, past: Past, forgets
         Past::Bytes(p, wanted) => put_ask_wish(out, place, p, wanted),
     }
     if let Past::Index(tested, _, _) = past {
-        put_tested(out, tested)
+        out.put1(Phrase::OrTestsIt, Fact::Word(tested))
     }
 }

@@ -10,9 +10,10 @@ use crate::forgotten::{Item, put_moved_round};
 use crate::held::{put_exit, put_written};
 use crate::lacks::{as_marked, put_lacking};
 use crate::led::is_reached;
+use crate::phrases::Phrase;
 use crate::place::Place;
 use crate::public::put_public;
-use crate::saying::Saying;
+use crate::saying::{Fact, Saying, choose};
 use crate::stale::put_stale;
 use crate::steps::put_unpaid;
 use crate::uses::{
@@ -27,11 +28,10 @@ fn put_leaves(out: &mut Saying, place: &Place) {
     let start = u32::from(place.image.start(place.r));
     let next = u32::from(place.pc) + 1;
     if falls_through(place.i.opcode) && !has_place(start, place.routine, next) {
-        out.text(" control passes the end of the routine: end it by RET or JMP");
+        out.put(Phrase::PassesEndOfRoutine)
     } else {
-        out.label(place.i.target).text(
-            " is outside of this routine: name a label of this routine, or CALL the other one",
-        );
+        out.put_pc(place.i.target, " L");
+        out.put(Phrase::OutsideOfRoutine)
     }
 }
 
@@ -43,30 +43,27 @@ fn put_entry(out: &mut Saying, place: &Place) {
     if out.len() == before {
         return put_public(out, place.routine);
     }
-    out.put_are(before, " required here, and not known from the in line")
+    out.put_are(before, Phrase::RequiredHere)
 }
 
 /// The routine that a CALL names is not before that of the place.
 fn put_later(out: &mut Saying, place: &Place, callee: &Routine) {
-    out.name(" ", callee.name_text());
+    let name = callee.name_text();
     if place.i.imm == place.r {
-        out.text(" calls itself, which no routine may: use a loop");
-        return;
+        return out.put_of(Phrase::CallsItself, name, Fact::Nothing);
     }
-    out.text(" comes after this routine, and a CALL names an earlier one: ");
-    if calls_to(place.image, place.i.imm, place.r) {
-        out.text("the two call each other, so take one of the CALLs out");
-    } else {
-        out.say_of("move % before this routine", callee.name_text(), 0);
-    }
+    out.put_of(Phrase::ComesAfter, name, Fact::Nothing);
+    let both = calls_to(place.image, place.i.imm, place.r);
+    let cure = choose(both, Phrase::CallEachOther, Phrase::MoveBefore);
+    out.put_of(cure, name, Fact::Nothing)
 }
 
 /// The entry row of the routine that a CALL names requires more than the row says.
 fn put_lacking_at_call(out: &mut Saying, place: &Place, callee: &Routine) {
     let before = out.len();
     put_lacking(out, place.row, &callee.entry);
-    out.put_are(before, " required by ");
-    out.say_of("%, and not known here", callee.name_text(), 0);
+    out.put_are(before, Phrase::RequiredBy);
+    out.put_of(Phrase::NameNotKnownHere, callee.name_text(), Fact::Nothing)
 }
 
 /// The routine that a CALL names is not before that of the place, or its entry row requires more than the row says; and what helps.
@@ -99,8 +96,8 @@ fn put_along(out: &mut Saying, place: &Place, branch: bool, to: u16) -> bool {
     if out.len() == before {
         return false;
     }
-    out.put_are(before, " required at");
-    out.say("@, and not known here", to as u64);
+    out.put_are(before, Phrase::RequiredAt);
+    out.put1(Phrase::LineNotKnownHere, Fact::Line(to));
     true
 }
 
@@ -136,9 +133,9 @@ fn put_slot_here(out: &mut Saying, place: &Place) {
     if put_slot(out, place.i, place.row) || put_forgotten(out, place, Item::Held(a)) {
         return;
     }
-    out.say(": lock one into s# first", a as u64);
+    out.put1(Phrase::LockOneInto, Fact::Index(a));
     if !place.routine.public {
-        out.say(", or say s# in the in line", a as u64);
+        out.put1(Phrase::OrSaySlot, Fact::Index(a))
     }
 }
 
@@ -167,7 +164,7 @@ pub(crate) fn put_words(out: &mut Saying, place: &Place, rule: Rule) {
         Rule::OverBudget => put_over(out, place),
     }
     if !is_reached(place.image, place.marks, place.pc) {
-        out.text("; no path leads here: take it out");
+        out.put(Phrase::NoPathLeadsHere)
     }
 }
 
@@ -180,7 +177,7 @@ pub(crate) fn rule_number(rule: Rule) -> u64
 
 /// The line of the refusal by the rule.
 pub(crate) fn put_refusal_line(out: &mut Saying, place: &Place, rule: Rule) {
-    out.number("; refused by V", rule_number(rule)).text(":");
+    out.put1(Phrase::RefusedBy, Fact::Number(rule_number(rule)));
     put_words(out, place, rule);
     out.text("\n");
 }
