@@ -1,8 +1,9 @@
 //! Placed items: instructions, and the blocks that control leaves.
 
+use crate::calls::result_fields;
 use crate::placed::{NOWHERE, Placed, PlacedKind, bare};
-use crate::placer::{Bracket, Placer};
-use crate::state::{DEAD, WHY, bit};
+use crate::placer::{Bracket, Placer, added};
+use crate::state::{DEAD, State, WHY, bit};
 use geos_image::Instr;
 use geos_opcodes::Opcode;
 use tkv_syntax::Why;
@@ -23,9 +24,8 @@ impl Placer {
             to,
             at,
         };
-        if self.placed.push(placed).is_err() {
-            self.refuse(Why::Memory, at);
-        }
+        let kept = added(&mut self.placed, placed);
+        self.keep(kept, at);
     }
 
     /// A block, loop or closing begins; its number.
@@ -36,9 +36,8 @@ impl Placer {
             return NOWHERE;
         }
         self.place(kind, instr, NOWHERE, at);
-        if self.brackets.push(Bracket { slot, joined: DEAD }).is_err() {
-            self.refuse(Why::Memory, at);
-        }
+        let kept = added(&mut self.brackets, Bracket { slot, joined: DEAD });
+        self.keep(kept, at);
         level as u16
     }
 
@@ -54,11 +53,12 @@ impl Placer {
         let Some(bracket) = self.brackets.pop() else {
             return self.refuse(Why::Unreached, at);
         };
-        if bracket.slot < 4 {
-            let into = self.pointers_into(bracket.slot);
-            self.state = self.state.unlocked(bracket.slot, into);
-        }
-        self.state = self.state.meet(bracket.joined);
+        self.state = self.released(self.state, bracket.slot).meet(bracket.joined);
+    }
+
+    /// What is known once a slot is unlocked. 255 is none.
+    fn released(&self, state: State, slot: u8) -> State {
+        state.unlocked(slot, self.pointers_into(slot))
     }
 
     /// The pointers that lead into a slot.
@@ -75,17 +75,8 @@ impl Placer {
     /// Control may leave to the end of a block, and releases the locks of the blocks that it leaves.
     fn join(&mut self, level: u16) {
         let mut known = self.state;
-        let count = self.brackets.len();
-        for k in 0..count {
-            let index = count - 1 - k;
-            if index == usize::from(level) {
-                break;
-            }
-            if let Some(bracket) = self.brackets.get(index).copied()
-                && bracket.slot < 4
-            {
-                known = known.unlocked(bracket.slot, self.pointers_into(bracket.slot));
-            }
+        for k in usize::from(level) + 1..self.brackets.len() {
+            known = self.released(known, self.brackets[k].slot);
         }
         if let Some(bracket) = self.brackets.get_mut(usize::from(level)) {
             bracket.joined = bracket.joined.meet(known);
@@ -107,6 +98,17 @@ impl Placer {
         if self.state.alive {
             self.leave(level, at);
         }
+    }
+
+    /// Control leaves to the end of a block, if it comes here, and what began last ends.
+    pub(crate) fn leave_and_end(&mut self, level: u16, at: u32) {
+        self.leave_if_alive(level, at);
+        self.end(at);
+    }
+
+    /// The number of what began last.
+    pub(crate) fn innermost_level(&self) -> u16 {
+        self.brackets.len().saturating_sub(1).min(65_534) as u16
     }
 
     /// Appends an instruction after which control continues.
@@ -134,31 +136,35 @@ impl Placer {
         self.state = state;
     }
 
-    /// The last placed item has its result in another word, if it is an instruction with its result in this one.
-    pub(crate) fn retarget(&mut self, from: u8, to: u8) -> bool {
-        use geos_opcodes::Yields;
+    /// The opcode of the last placed item, if that is an instruction; otherwise of one that leaves no result.
+    pub(crate) fn last_opcode(&self) -> Opcode {
+        match self.placed.last() {
+            Some(placed) if matches!(placed.kind, PlacedKind::Do) => placed.instr.opcode,
+            _ => Opcode::Jmp,
+        }
+    }
+
+    /// The last placed instruction, which leaves something in its field `a`, in `b` or in neither, leaves it in another register, if it leaves it
+    /// in this one.
+    pub(crate) fn redirect(&mut self, fields: (bool, bool), from: u8, to: u8) -> bool {
         let Some(placed) = self.placed.last_mut() else {
             return false;
         };
-        if !matches!(placed.kind, PlacedKind::Do) {
-            return false;
+        let (in_a, in_b) = fields;
+        let moves_a = in_a && !in_b && placed.instr.a == from;
+        let moves_b = in_b && !in_a && placed.instr.b == from;
+        if moves_a {
+            placed.instr.a = to;
         }
-        match placed.instr.opcode.facts().yields {
-            Yields::Computed | Yields::ByteInA | Yields::WordInA => {
-                if placed.instr.a != from || matches!(placed.instr.opcode, Opcode::Chk) {
-                    return false;
-                }
-                placed.instr.a = to;
-                true
-            }
-            Yields::WordInB => {
-                if placed.instr.b != from {
-                    return false;
-                }
-                placed.instr.b = to;
-                true
-            }
-            Yields::Nothing | Yields::WordInAAndB => false,
+        if moves_b {
+            placed.instr.b = to;
         }
+        moves_a || moves_b
+    }
+
+    /// The last placed item has its result in another word, if it is an instruction with its result in this one.
+    pub(crate) fn retarget(&mut self, from: u8, to: u8) -> bool {
+        let opcode = self.last_opcode();
+        !matches!(opcode, Opcode::Chk) && self.redirect(result_fields(opcode), from, to)
     }
 }

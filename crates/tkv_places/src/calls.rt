@@ -1,6 +1,6 @@
 //! Calls of the kernel: the instructions under their names in small letters.
 
-use crate::declarations::{is_call, opcode_named};
+use crate::declarations::{is_call, is_lock, opcode_named};
 use crate::names::value;
 use crate::placed::bare;
 use crate::placer::{Held, Operand, Placer, Sort};
@@ -10,54 +10,55 @@ use geos_opcodes::{
 };
 use tkv_syntax::{Item, Why};
 
-/// An instruction with a field set.
-pub(crate) fn with_field(instr: Instr, field: Field, number: u16) -> Instr {
+/// Sets a field of an instruction.
+fn set_field(instr: &mut Instr, field: Field, number: u16) {
     let register = if number < 256 { number as u8 } else { 0 };
     match field {
-        Field::A => Instr {
-            a: register,
-            ..instr
-        },
-        Field::B => Instr {
-            b: register,
-            ..instr
-        },
-        Field::C => Instr {
-            c: register,
-            ..instr
-        },
-        Field::D => Instr {
-            d: register,
-            ..instr
-        },
-        Field::Imm => Instr {
-            imm: number,
-            ..instr
-        },
-        Field::Target => instr,
+        Field::A => instr.a = register,
+        Field::B => instr.b = register,
+        Field::C => instr.c = register,
+        Field::D => instr.d = register,
+        Field::Imm => instr.imm = number,
+        Field::Target => {}
+    }
+}
+
+/// Whether an instruction leaves a word in its field `a`, and in `b`.
+pub(crate) fn result_fields(opcode: Opcode) -> (bool, bool) {
+    match opcode.facts().yields {
+        Yields::Computed | Yields::ByteInA | Yields::WordInA => (true, false),
+        Yields::WordInB => (false, true),
+        Yields::WordInAAndB => (true, true),
+        Yields::Nothing => (false, false),
     }
 }
 
 /// Whether an instruction leaves something in the field, so that a call has no argument for it.
 fn is_result(opcode: Opcode, field: Field) -> bool {
-    let facts = opcode.facts();
-    let word = match facts.yields {
-        Yields::Computed | Yields::ByteInA | Yields::WordInA => matches!(field, Field::A),
-        Yields::WordInB => matches!(field, Field::B),
-        Yields::WordInAAndB => matches!(field, Field::A | Field::B),
-        Yields::Nothing => false,
-    };
-    word || (matches!(facts.uses.pointer, PointerUse::Sets) && matches!(field, Field::B))
+    let (in_a, in_b) = result_fields(opcode);
+    match field {
+        Field::A => in_a,
+        Field::B => in_b || matches!(opcode.uses().pointer, PointerUse::Sets),
+        _ => false,
+    }
 }
 
-/// Whether a call has an argument for the field.
+/// Whether a call or a lock has an argument for the field. The word for the handle of a block that is made is one.
 fn is_argument(opcode: Opcode, field: Field) -> bool {
-    !matches!(field, Field::Target)
-        && operand_at(opcode, field) != Holds::Unused
-        && !is_result(opcode, field)
+    match field {
+        Field::Target => false,
+        Field::A if is_lock(opcode) => false,
+        Field::B if makes(opcode) => true,
+        _ => operand_at(opcode, field) != Holds::Unused && !is_result(opcode, field),
+    }
 }
 
-/// How many arguments a call has.
+/// Whether the instruction makes the block that it locks.
+pub(crate) fn makes(opcode: Opcode) -> bool {
+    matches!(opcode, Opcode::Mnew | Opcode::Vnew)
+}
+
+/// How many arguments a call or a lock has.
 pub(crate) fn argument_count(opcode: Opcode) -> usize {
     let mut count = 0;
     for field in FIELDS {
@@ -70,7 +71,7 @@ pub(crate) fn argument_count(opcode: Opcode) -> usize {
 
 impl Placer {
     /// What a field holds for an argument.
-    pub(crate) fn argument(&mut self, holds: Holds, operand: Operand) -> u16 {
+    fn argument(&mut self, holds: Holds, operand: Operand) -> u16 {
         match holds {
             Holds::Slot => u16::from(self.slot_of(operand)),
             Holds::Pointer => u16::from(self.pointer_of(operand)),
@@ -79,8 +80,8 @@ impl Placer {
         }
     }
 
-    /// The instruction of a call, whose arguments are the last values, without its results.
-    fn filled(&mut self, opcode: Opcode, count: usize, at: u32) -> Instr {
+    /// The instruction of a call or a lock, whose arguments are the last values, without its results and the slot of a lock.
+    pub(crate) fn filled(&mut self, opcode: Opcode, count: usize, at: u32) -> Instr {
         let mut instr = bare(opcode);
         let mut left = count;
         for field in FIELDS {
@@ -92,22 +93,31 @@ impl Placer {
                     self.operand(left - 1, at)
                 };
                 left = left.saturating_sub(1);
+                let handle = matches!(operand.sort, Sort::Handle);
+                if handle != (makes(opcode) && matches!(field, Field::B)) {
+                    self.refuse(Why::NotSettable, operand.at);
+                }
                 let number = self.argument(operand_at(opcode, field), operand);
-                instr = with_field(instr, field, number);
+                set_field(&mut instr, field, number);
             }
         }
         instr
+    }
+
+    /// Refuses a call that writes the file if a block of it is locked.
+    fn refuse_locked(&mut self, at: u32) {
+        for k in 0..4 {
+            if !matches!(self.slots[k], Held::Free | Held::Mem) {
+                self.refuse(Why::Commits, at);
+            }
+        }
     }
 
     /// Reports what a call does not allow at this place, and marks the block that the call changes.
     fn prepare(&mut self, opcode: Opcode, count: usize, at: u32) {
         let uses = opcode.uses();
         if matches!(uses.slot, SlotUse::Commits) {
-            for held in self.slots {
-                if !matches!(held, Held::Free | Held::Mem) {
-                    return self.refuse(Why::Commits, at);
-                }
-            }
+            self.refuse_locked(at);
         }
         if count == 0 {
             return;
@@ -186,18 +196,13 @@ impl Placer {
     /// A call that gives words, or nothing.
     fn with_results(&mut self, instr: Instr, count: usize, asks: bool, at: u32) {
         self.take_values(count);
-        let yields = instr.opcode.facts().yields;
+        let (in_a, in_b) = result_fields(instr.opcode);
         let mut made = instr;
-        match yields {
-            Yields::WordInAAndB => {
-                made.a = self.push_result(at);
-                made.b = self.push_result(at);
-            }
-            Yields::WordInB => made.b = self.push_result(at),
-            Yields::Computed | Yields::ByteInA | Yields::WordInA => {
-                made.a = self.push_result(at);
-            }
-            Yields::Nothing => {}
+        if in_a {
+            made.a = self.push_result(at);
+        }
+        if in_b {
+            made.b = self.push_result(at);
         }
         self.called(made, asks, at);
     }

@@ -1,6 +1,6 @@
 //! The declarations of a program: constants, structures and routines.
 
-use crate::placed::NOWHERE;
+use crate::placer::added;
 use geos_opcodes::{Opcode, SlotUse};
 use std::alloc::Global;
 use tkv_syntax::{Fault, Item, ItemKind, NUMBERS, Name, Source, Why, name_at};
@@ -9,7 +9,7 @@ use tkv_syntax::{Fault, Item, ItemKind, NUMBERS, Name, Source, Why, name_at};
 const MOST: usize = 256;
 
 /// What a declared name stands for.
-#[derive(Clone, Copy, PartialEq, Eq)]
+#[derive(Clone, Copy)]
 pub(crate) enum Kind {
     Constant,
     Structure,
@@ -20,6 +20,8 @@ pub(crate) enum Kind {
 #[derive(Clone, Copy)]
 pub(crate) struct Declaration {
     pub name: Name,
+    /// Its index.
+    pub index: u16,
     pub kind: Kind,
     pub at: u32,
     /// The constant, or how many bytes the structure has.
@@ -121,17 +123,13 @@ impl Declared {
     }
 
     /// The declaration of a name, if it has one.
-    pub(crate) fn find(&self, name: &Name) -> Option<u16> {
-        for (k, global) in self.globals.iter().enumerate() {
-            if global.name == *name && k < MOST {
-                return Some(k as u16);
+    pub(crate) fn find(&self, name: &Name) -> Option<Declaration> {
+        for global in &self.globals {
+            if global.name == *name {
+                return Some(*global);
             }
         }
         None
-    }
-
-    pub(crate) fn get(&self, index: u16) -> Option<Declaration> {
-        self.globals.get(usize::from(index)).copied()
     }
 
     /// A field of a structure, by its name.
@@ -150,16 +148,9 @@ impl Declared {
             return Ok(code as u16);
         }
         let at = code - NUMBERS;
-        let index = self.find(&self.name(at)).unwrap_or(NOWHERE);
-        match self.get(index) {
-            Some(global) => {
-                if matches!(global.kind, Kind::Routine) {
-                    Err(Fault::new(Why::NoConstant, at))
-                } else {
-                    Ok(global.value)
-                }
-            }
-            None => Err(Fault::new(Why::NoConstant, at)),
+        match self.find(&self.name(at)) {
+            Some(global) if !matches!(global.kind, Kind::Routine) => Ok(global.value),
+            _ => Err(Fault::new(Why::NoConstant, at)),
         }
     }
 }
@@ -169,44 +160,20 @@ pub(crate) fn folded(kind: ItemKind, left: u16, right: u16) -> Option<u16> {
     let (x, y) = (u32::from(left), u32::from(right));
     let value = match kind {
         ItemKind::Add => x + y,
-        ItemKind::Sub => {
-            if x < y {
-                return None;
-            }
-            x - y
-        }
+        ItemKind::Sub => x.wrapping_sub(y),
         ItemKind::Mul => x.saturating_mul(y),
-        ItemKind::Div => {
-            if y == 0 {
-                return None;
-            }
-            x / y
-        }
-        ItemKind::Rem => {
-            if y == 0 {
-                return None;
-            }
-            x % y
-        }
+        ItemKind::Div => if y == 0 { NUMBERS } else { x / y },
+        ItemKind::Rem => if y == 0 { NUMBERS } else { x % y },
         ItemKind::Mask => x & y,
-        ItemKind::Left => {
-            if y > 15 {
-                return None;
-            }
-            x << y
-        }
-        ItemKind::Right => {
-            if y > 15 {
-                return None;
-            }
-            x >> y
-        }
-        _ => return None,
+        ItemKind::Left => if y > 15 { NUMBERS } else { x << y },
+        ItemKind::Right => if y > 15 { NUMBERS } else { x >> y },
+        _ => NUMBERS,
     };
-    if value > 65_535 {
-        return None;
+    if value < NUMBERS {
+        Some(value as u16)
+    } else {
+        None
     }
-    Some(value as u16)
 }
 
 /// What is being declared. After the first fault what is declared does not matter.
@@ -233,10 +200,16 @@ impl Declaring {
         self.refuse_with(Fault::new(why, at));
     }
 
+    /// Refuses the source unless there was memory to keep what is at a place.
+    fn keep(&mut self, kept: bool, at: u32) {
+        if !kept {
+            self.refuse(Why::Memory, at);
+        }
+    }
+
     /// Refuses a name that has a declaration, or that is one of the kernel's calls.
     fn refuse_twice(&mut self, name: &Name, at: u32) {
-        let index = self.declared.find(name).unwrap_or(NOWHERE);
-        if let Some(old) = self.declared.get(index) {
+        if let Some(old) = self.declared.find(name) {
             self.refuse_with(Fault {
                 other: old.at,
                 ..Fault::new(Why::Twice, at)
@@ -250,20 +223,21 @@ impl Declaring {
     fn name(&mut self, kind: Kind, item: usize, at: u32, value: u16) {
         let name = self.declared.name(at);
         self.refuse_twice(&name, at);
-        if self.declared.globals.len() >= MOST {
+        let index = self.declared.globals.len();
+        if index >= MOST {
             return self.refuse(Why::TooMany, at);
         }
         let global = Declaration {
             name,
+            index: index as u16,
             kind,
             at,
             value,
             item,
             quiet: true,
         };
-        if self.declared.globals.push(global).is_err() {
-            self.refuse(Why::Memory, at);
-        }
+        let kept = added(&mut self.declared.globals, global);
+        self.keep(kept, at);
     }
 
     /// What a constant says that is used.
@@ -300,10 +274,9 @@ impl Declaring {
         let count = u32::from(self.constant(item.c));
         let bytes = item.a.min(2) as u16;
         if self.declared.field(owner, &name).is_some() {
-            return self.refuse(Why::Twice, item.at);
-        }
-        if self.declared.fields.len() >= MOST {
-            return self.refuse(Why::TooMany, item.at);
+            self.refuse(Why::Twice, item.at);
+        } else if self.declared.fields.len() >= MOST {
+            self.refuse(Why::TooMany, item.at);
         }
         let field = FieldPlace {
             name,
@@ -312,15 +285,13 @@ impl Declaring {
             bytes,
             many: item.b != 0,
         };
-        if self.declared.fields.push(field).is_err() {
-            self.refuse(Why::Memory, item.at);
-        }
+        let kept = added(&mut self.declared.fields, field);
+        self.keep(kept, item.at);
     }
 
     fn value(&mut self, value: u16, at: u32) {
-        if self.values.push(value).is_err() {
-            self.refuse(Why::Memory, at);
-        }
+        let kept = added(&mut self.values, value);
+        self.keep(kept, at);
     }
 
     /// Joins the last two values of a constant.
@@ -351,10 +322,9 @@ impl Declaring {
         if !self.within {
             return self.refuse(Why::NoConstant, at);
         }
-        if may_move(&self.declared.name(at))
-            && let Some(global) = self.declared.globals.last_mut()
-        {
-            global.quiet = false;
+        let quiet = !may_move(&self.declared.name(at));
+        if let Some(global) = self.declared.globals.last_mut() {
+            global.quiet = global.quiet && quiet;
         }
     }
 

@@ -3,7 +3,9 @@
 use crate::declarations::{Declaration, Kind};
 use crate::names::value;
 use crate::placed::NOWHERE;
-use crate::placer::{Construct, Held, MOST_WORDS, Meaning, Operand, Placer, Running, Sort, Symbol};
+use crate::placer::{
+    Construct, Held, MOST_WORDS, Meaning, Operand, Placer, Running, Sort, Symbol, added,
+};
 use tkv_syntax::{Item, ItemKind, NUMBERS, Name, Why};
 
 /// Whether a block is of the kind that a parameter says: 0 for `mem`, 1 for `vm`, 2 for `group`.
@@ -17,20 +19,24 @@ fn is_of_kind(held: Held, kind: u32) -> bool {
 }
 
 impl Placer {
+    /// Whether the routine of an item runs.
+    fn runs(&self, routine: usize) -> bool {
+        for running in &self.running {
+            if running.routine == routine {
+                return true;
+            }
+        }
+        false
+    }
+
     /// The routine that a name declares, if that does not run already.
     fn routine_named(&mut self, name: &Name, at: u32) -> Option<Declaration> {
-        let index = self.declared.find(name).unwrap_or(NOWHERE);
-        let found = self.declared.get(index);
+        let found = self.declared.find(name);
         match found {
             Some(routine) => {
                 if !matches!(routine.kind, Kind::Routine) {
                     self.refuse(Why::NoCall, at);
-                }
-                if self
-                    .running
-                    .iter()
-                    .any(|running| running.routine == routine.item)
-                {
+                } else if self.runs(routine.item) {
                     self.refuse(Why::CallsItself, at);
                 }
             }
@@ -101,12 +107,12 @@ impl Placer {
             self.refuse_by(Why::PastEnd, operand.at, operand.value);
         }
         let mut pointer = operand;
-        pointer.structure = if item.a < NUMBERS {
-            NOWHERE
-        } else {
-            let name = self.name(item.a - NUMBERS);
-            self.declared.find(&name).unwrap_or(NOWHERE)
-        };
+        pointer.structure = NOWHERE;
+        if item.a >= NUMBERS
+            && let Some(structure) = self.declared.find(&self.name(item.a - NUMBERS))
+        {
+            pointer.structure = structure.index;
+        }
         self.stands_for(item, Meaning::Pointer, &pointer);
     }
 
@@ -211,9 +217,8 @@ impl Placer {
 
     /// A routine begins.
     pub(crate) fn run(&mut self, running: Running, at: u32) {
-        if self.running.push(running).is_err() {
-            self.refuse(Why::Memory, at);
-        }
+        let kept = added(&mut self.running, running);
+        self.keep(kept, at);
     }
 
     /// The end of an inlined routine: its result replaces the call, and the statements after the call follow.

@@ -32,39 +32,32 @@ impl Placer {
         }
     }
 
-    /// The target of a refusal with `?`, and of `fail`.
-    pub(crate) fn way_out(&mut self, at: u32) -> u16 {
+    /// The outermost block of the innermost construct of the routine that takes refusals, or of its innermost loop. `NOWHERE` if there is none.
+    fn level_around(&self, takes_refusals: bool) -> u16 {
         let mut level = NOWHERE;
-        for frame in self.frames.iter().rev() {
+        for frame in &self.frames {
             match frame.construct {
-                Construct::Try => {
-                    level = frame.level.saturating_add(1);
-                    break;
-                }
-                Construct::Routine | Construct::Inlined => break,
+                Construct::Try if takes_refusals => level = frame.level,
+                Construct::Turns | Construct::For if !takes_refusals => level = frame.level,
+                Construct::Routine | Construct::Inlined => level = NOWHERE,
                 _ => {}
             }
         }
+        level
+    }
+
+    /// The target of a refusal with `?`, and of `fail`.
+    pub(crate) fn way_out(&mut self, at: u32) -> u16 {
+        let level = self.level_around(true);
         if level == NOWHERE {
-            self.routine_way(at)
-        } else {
-            level
+            return self.routine_way(at);
         }
+        level.saturating_add(1)
     }
 
     /// The block of the innermost loop of the routine.
     fn loop_level(&mut self, at: u32) -> u16 {
-        let mut level = NOWHERE;
-        for frame in self.frames.iter().rev() {
-            match frame.construct {
-                Construct::Turns | Construct::For => {
-                    level = frame.level;
-                    break;
-                }
-                Construct::Routine | Construct::Inlined => break,
-                _ => {}
-            }
-        }
+        let level = self.level_around(false);
         if level == NOWHERE {
             self.refuse(Why::NoLoop, at);
         }
@@ -128,22 +121,14 @@ impl Placer {
     /// What may be refused is over, and what takes refusals follows.
     pub(crate) fn attempted(&mut self, at: u32) {
         let frame = self.innermost(at);
-        self.leave_if_alive(frame.level, at);
+        self.leave_and_end(frame.level, at);
         if matches!(frame.construct, Construct::Try) {
             self.restore(&frame);
         }
-        self.end(at);
         if !self.state.alive {
             self.refuse(Why::NothingRefused, at);
         }
         self.turn_into(Construct::Tried);
-    }
-
-    /// What took refusals is over.
-    pub(crate) fn attempt_end(&mut self, at: u32) {
-        let frame = self.finish(at);
-        self.restore(&frame);
-        self.end(at);
     }
 
     /// A statement begins.

@@ -1,12 +1,11 @@
 //! Locks.
 
-use crate::calls::{argument_count, with_field};
+use crate::calls::{argument_count, makes};
 use crate::declarations::{is_lock, opcode_named};
-use crate::placed::{NOWHERE, PlacedKind, bare, with_registers};
-use crate::placer::{Construct, Frame, Held, Meaning, Placer, Sort, Symbol};
+use crate::placed::{NOWHERE, PlacedKind, with_registers};
+use crate::placer::{Construct, Frame, Held, Meaning, Placer, Symbol};
 use crate::state::bit;
-use geos_image::Instr;
-use geos_opcodes::{FIELDS, Field, Opcode, Operand as Holds, operand_at};
+use geos_opcodes::Opcode;
 use tkv_syntax::{Item, NONE, Why};
 
 /// What a slot holds that the instruction locks a block into, and what gives it back.
@@ -16,16 +15,6 @@ fn locked(opcode: Opcode) -> (Held, Opcode) {
         Opcode::Ilock => (Held::Group, Opcode::Iunlock),
         _ => (Held::Mem, Opcode::Munlock),
     }
-}
-
-/// Whether the instruction makes the block that it locks.
-fn makes(opcode: Opcode) -> bool {
-    matches!(opcode, Opcode::Mnew | Opcode::Vnew)
-}
-
-/// How many arguments a lock has: a handle that is made counts as one.
-fn lock_arguments(opcode: Opcode) -> usize {
-    argument_count(opcode).saturating_sub(1) + usize::from(makes(opcode))
 }
 
 /// A lock that is being placed.
@@ -40,29 +29,6 @@ struct Locking {
 }
 
 impl Placer {
-    /// The instruction of a lock, whose arguments are the last values; the word that a handle goes to is set after it.
-    fn lock_instr(&mut self, locking: &Locking, at: u32) -> Instr {
-        let mut instr = bare(locking.opcode);
-        let mut left = locking.count;
-        for field in FIELDS {
-            let holds = operand_at(locking.opcode, field);
-            let free = matches!(field, Field::A | Field::Target)
-                || matches!(holds, Holds::Unused | Holds::Pointer);
-            if !free {
-                left = left.saturating_sub(1);
-                let operand = self.operand(left, at);
-                let handle = matches!(operand.sort, Sort::Handle);
-                if handle != (makes(locking.opcode) && matches!(field, Field::B)) {
-                    self.refuse(Why::NotSettable, operand.at);
-                }
-                let number = self.argument(holds, operand);
-                instr = with_field(instr, field, number);
-            }
-        }
-        instr.a = locking.slot;
-        instr
-    }
-
     /// What is known of a block that was made: it differs from others of its kind, and one of the file is marked.
     fn note_new(&mut self, locking: &Locking, held: Held) {
         if !makes(locking.opcode) {
@@ -119,7 +85,7 @@ impl Placer {
         if !is_lock(opcode) || fetches != (item.b != NONE) {
             return self.refuse(Why::ExpectedLock, at);
         }
-        let takes = lock_arguments(opcode);
+        let takes = argument_count(opcode);
         if count != takes || self.operand_count() != count {
             return self.refuse_by(Why::Arguments, at, takes.min(255) as u16);
         }
@@ -141,7 +107,8 @@ impl Placer {
             register: locking.slot,
             ..self.frame(Construct::Lock, at)
         };
-        let mut instr = self.lock_instr(locking, at);
+        let mut instr = self.filled(locking.opcode, locking.count, at);
+        instr.a = locking.slot;
         let structure = self.operand(0, at).structure_of();
         self.clear();
         let fetches = matches!(locking.opcode, Opcode::Ilock);
@@ -178,19 +145,6 @@ impl Placer {
         self.restore(&frame);
         if frame.level != NOWHERE {
             self.leave_if_alive(frame.level, at);
-        }
-    }
-
-    /// The lock was refused, and is handled.
-    pub(crate) fn lock_refused(&mut self, at: u32) {
-        self.end(at);
-    }
-
-    pub(crate) fn lock_done(&mut self, at: u32) {
-        let frame = self.finish(at);
-        self.restore(&frame);
-        if frame.level != NOWHERE {
-            self.end(at);
         }
     }
 }

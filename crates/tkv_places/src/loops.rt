@@ -2,7 +2,9 @@
 
 use crate::names::value;
 use crate::placed::{NOWHERE, PlacedKind, with_number, with_registers};
-use crate::placer::{Construct, Frame, MOST_WORDS, Meaning, Operand, Placer, Sort, Symbol, Turns};
+use crate::placer::{
+    Construct, Frame, MOST_WORDS, Meaning, Operand, Placer, Sort, Symbol, Turns, added,
+};
 use crate::state::{WHY, below, bit};
 use geos_opcodes::Opcode;
 use tkv_syntax::{Item, Why};
@@ -75,9 +77,8 @@ impl Placer {
             head: self.state,
             counts_first,
         };
-        if self.turns.push(turns).is_err() {
-            self.refuse(Why::Memory, at);
-        }
+        let kept = added(&mut self.turns, turns);
+        self.keep(kept, at);
     }
 
     /// A loop with its counter, in two blocks: `break` leaves to the end of the outer one, and a loop without iterations to the end of the inner
@@ -254,12 +255,5 @@ impl Placer {
         self.counters = self.counters.saturating_sub(1);
         // `break` and `continue` in the `else` belong to the loop around this one.
         self.turn_into(Construct::Scope);
-    }
-
-    /// The end of the loop, and of the statements after its `else`.
-    pub(crate) fn loop_done(&mut self, at: u32) {
-        let frame = self.finish(at);
-        self.restore(&frame);
-        self.end(at);
     }
 }

@@ -1,10 +1,10 @@
 //! Pointers that calls make stale, in a row of statements and in the turns of a loop.
 
 use crate::declarations::opcode_named;
-use crate::placer::{Held, Loss, Meaning, Placer};
+use crate::placer::{Held, Loss, Meaning, Placer, added};
 use crate::state::bit;
 use geos_opcodes::SlotUse;
-use tkv_syntax::{Item, ItemKind, NONE, Why};
+use tkv_syntax::{Item, ItemKind, NONE};
 
 /// Whether two slots hold blocks of one kind.
 fn are_alike(one: Held, other: Held) -> bool {
@@ -49,38 +49,34 @@ impl Placer {
         }
     }
 
+    /// Chunks of the block of this name may move, at a call there.
+    fn lose_into_named(&mut self, name_place: u32, at: u32) {
+        match self.symbol(&self.name(name_place)) {
+            Some(symbol) => {
+                if matches!(symbol.meaning, Meaning::Block) {
+                    self.lose_into(symbol.register, at);
+                }
+            }
+            // A block that is locked within the loop.
+            None => self.lose_all(at),
+        }
+    }
+
     /// Makes the pointers stale that a call in a loop's body makes stale. `first` is the offset of its first argument's name.
     fn lose_by_call(&mut self, call: &Item, first: u32) {
         let at = call.at;
         let name = self.name(at);
-        let Some(opcode) = opcode_named(&name) else {
-            let quiet = match self.declared.find(&name) {
-                Some(index) => self
-                    .declared
-                    .get(index)
-                    .is_some_and(|routine| routine.quiet),
-                None => true,
-            };
-            if !quiet {
+        match opcode_named(&name) {
+            Some(opcode) => match opcode.uses().slot {
+                SlotUse::Moves => self.lose_into_named(first, at),
+                SlotUse::MovesGroup => self.lose_groups(at),
+                _ => {}
+            },
+            None => if let Some(routine) = self.declared.find(&name)
+                && !routine.quiet
+            {
                 self.lose_all(at);
-            }
-            return;
-        };
-        match opcode.uses().slot {
-            SlotUse::Moves => {
-                let block = self.symbol(&self.name(first));
-                match block {
-                    Some(symbol) => {
-                        if matches!(symbol.meaning, Meaning::Block) {
-                            self.lose_into(symbol.register, at);
-                        }
-                    }
-                    // A block that is locked within the loop.
-                    None => self.lose_all(at),
-                }
-            }
-            SlotUse::MovesGroup => self.lose_groups(at),
-            _ => {}
+            },
         }
     }
 }
@@ -89,15 +85,13 @@ impl Placer {
 #[derive(Drop)]
 struct Seen {
     names: Vec<u32>,
-    /// The offset at which an allocation failed, if one did.
-    refused: Option<u32>,
+    /// Whether there was memory for each of them.
+    kept: bool,
 }
 
 impl Seen {
     fn push(&mut self, at: u32) {
-        if self.names.push(at).is_err() && self.refused.is_none() {
-            self.refused = Some(at);
-        }
+        self.kept = self.kept && added(&mut self.names, at);
     }
 
     /// Replaces so many values by one that is no name. Returns the offset of the first of them.
@@ -141,7 +135,7 @@ impl Placer {
         let name = self.name(name_place);
         let mut seen = Seen {
             names: Vec::new(self.alloc),
-            refused: None,
+            kept: true,
         };
         let mut depth: u32 = 1;
         let mut speaks = false;
@@ -162,9 +156,7 @@ impl Placer {
                 self.lose_by_call(&item, first);
             }
         }
-        if let Some(at) = seen.refused {
-            self.refuse(Why::Memory, at);
-        }
+        self.keep(seen.kept, name_place);
         speaks
     }
 }

@@ -4,7 +4,7 @@ ghost use Rattle.std.specs.Prelude.{◌<◌, IfSome};
 
 use crate::declarations::Kind;
 use crate::placed::NOWHERE;
-use crate::placer::{Held, MOST_WORDS, Meaning, Operand, Placer, Sort, Symbol};
+use crate::placer::{Held, MOST_WORDS, Meaning, Operand, Placer, Sort, Symbol, added};
 use crate::state::bit;
 use tkv_syntax::{Item, ItemKind, Name, Why};
 
@@ -57,9 +57,9 @@ impl Need {
 impl Placer {
     /// What a name of the routine stands for.
     pub(crate) fn symbol(&self, name: &Name) -> Option<Symbol> {
-        for (k, symbol) in self.symbols.iter().enumerate() {
-            if k >= self.base && symbol.name == *name {
-                return Some(*symbol);
+        for k in self.base..self.symbols.len() {
+            if self.symbols[k].name == *name {
+                return Some(self.symbols[k]);
             }
         }
         None
@@ -75,9 +75,8 @@ impl Placer {
 
     /// Gives a name its meaning, which no other name of the routine has.
     pub(crate) fn know(&mut self, symbol: Symbol) {
-        if self.symbols.push(symbol).is_err() {
-            self.refuse(Why::Memory, symbol.at);
-        }
+        let kept = added(&mut self.symbols, symbol);
+        self.keep(kept, symbol.at);
     }
 
     /// Names a register.
@@ -140,9 +139,10 @@ impl Placer {
     /// The words that names of the routine need still.
     pub(crate) fn needed_words(&self) -> u8 {
         let mut words = 0;
-        for (k, symbol) in self.symbols.iter().enumerate() {
+        for k in self.base..self.symbols.len() {
+            let symbol = self.symbols[k];
             let word = matches!(symbol.meaning, Meaning::Word | Meaning::Fixed);
-            if word && k >= self.base && symbol.last >= self.next {
+            if word && symbol.last >= self.next {
                 words |= bit(symbol.register);
             }
         }
@@ -254,9 +254,8 @@ impl Placer {
     }
 
     pub(crate) fn push(&mut self, operand: Operand) {
-        if self.operands.push(operand).is_err() {
-            self.refuse(Why::Memory, operand.at);
-        }
+        let kept = added(&mut self.operands, operand);
+        self.keep(kept, operand.at);
     }
 
     /// The value of a name.
@@ -277,8 +276,7 @@ impl Placer {
                 structure: symbol.structure,
             });
         }
-        let index = self.declared.find(&name).unwrap_or(NOWHERE);
-        match self.declared.get(index) {
+        match self.declared.find(&name) {
             Some(global) => {
                 let sort = match global.kind {
                     Kind::Constant => Sort::Constant,
@@ -286,7 +284,7 @@ impl Placer {
                     Kind::Routine => return self.refuse(Why::NoWordHere, item.at),
                 };
                 self.push(Operand {
-                    structure: index,
+                    structure: global.index,
                     ..value(sort, item.at, 0, global.value)
                 })
             }
@@ -304,13 +302,7 @@ impl Placer {
                 }
                 symbol.register
             }
-            None => {
-                let register = self.take_named(item.at);
-                self.keep_word(register);
-                self.state.words &= !bit(register);
-                self.declare_word(item.at, register);
-                register
-            }
+            None => self.declare_unset(item.at),
         };
         self.push(value(Sort::Handle, item.at, register, 0))
     }

@@ -44,9 +44,12 @@ impl Placer {
 
     /// Whether w7 keeps neither the number of a refusal nor a value.
     pub(crate) fn is_spare(&self) -> bool {
-        let kept = self.operands.iter().any(|operand| operand.is_temporary()
-            && operand.register == WHY);
-        !kept && !self.state.has_word(WHY)
+        for operand in &self.operands {
+            if operand.is_temporary() && operand.register == WHY {
+                return false;
+            }
+        }
+        !self.state.has_word(WHY)
     }
 
     /// Loads a constant as an operand: into w7 if that has nothing to keep, otherwise into a free word.
@@ -124,10 +127,8 @@ impl Placer {
     /// The word for the result of an operation on so many values: the lowest that they take, or the lowest free one.
     pub(crate) fn lowest(&mut self, count: usize, at: u32) -> u8 {
         let mut register = self.words;
-        for (k, operand) in self.operands.iter().rev().enumerate() {
-            if k >= count {
-                break;
-            }
+        for k in 0..count {
+            let operand = self.operand(k, at);
             if operand.is_temporary() && operand.register < register {
                 register = operand.register;
             }

@@ -24,7 +24,7 @@ pub(crate) enum Held {
 }
 
 /// What a name stands for in a routine.
-#[derive(Clone, Copy, PartialEq, Eq)]
+#[derive(Clone, Copy)]
 pub(crate) enum Meaning {
     /// A word that may be set.
     Word,
@@ -52,7 +52,7 @@ pub(crate) struct Symbol {
 }
 
 /// What a value is.
-#[derive(Clone, Copy, PartialEq, Eq)]
+#[derive(Clone, Copy)]
 pub(crate) enum Sort {
     Constant,
     /// A word with a name.
@@ -112,7 +112,7 @@ pub(crate) struct Bracket {
 }
 
 /// What a construct of the source is that has not ended.
-#[derive(Clone, Copy, PartialEq, Eq)]
+#[derive(Clone, Copy)]
 pub(crate) enum Construct {
     Routine,
     Inlined,
@@ -174,6 +174,11 @@ pub(crate) struct Running {
     pub callers: u8,
     pub handler: u16,
     pub asks: bool,
+}
+
+/// Adds an item to a list. Whether there was memory for it.
+pub(crate) fn added<T: Drop>(list: &mut Vec<T>, item: T) -> bool {
+    list.push(item).is_ok()
 }
 
 /// Why a pointer is stale: which call, or which loop, may move its chunk.
@@ -276,6 +281,13 @@ impl Placer {
         self.refuse_with(Fault::new(why, at));
     }
 
+    /// Refuses the source unless there was memory to keep what is at a place.
+    pub(crate) fn keep(&mut self, kept: bool, at: u32) {
+        if !kept {
+            self.refuse(Why::Memory, at);
+        }
+    }
+
     /// Refuses the source for what is at a place, with another place to name.
     pub(crate) fn refuse_for(&mut self, why: Why, at: u32, other: u32) {
         self.refuse_with(Fault {
@@ -322,9 +334,8 @@ impl Placer {
     }
 
     pub(crate) fn begin(&mut self, frame: Frame) {
-        if self.frames.push(frame).is_err() {
-            self.refuse(Why::Memory, frame.at);
-        }
+        let kept = added(&mut self.frames, frame);
+        self.keep(kept, frame.at);
     }
 
     /// Forgets the names that are known since a construct began, and gives their registers back.
@@ -352,6 +363,15 @@ impl Placer {
         let frame = self.innermost(at);
         self.frames.pop();
         frame
+    }
+
+    /// The innermost construct ends, with its outermost block if it has one, and its names are forgotten.
+    pub(crate) fn construct_end(&mut self, at: u32) {
+        let frame = self.finish(at);
+        self.restore(&frame);
+        if frame.level != NOWHERE {
+            self.end(at);
+        }
     }
 
     /// The innermost construct becomes another one.

@@ -89,7 +89,7 @@ impl Placer {
     fn end_routine(&mut self, at: u32) -> bool {
         let inner = self.innermost(at);
         if matches!(inner.construct, Construct::Tried) {
-            self.attempt_end(at);
+            self.construct_end(at);
         }
         let routine = self.innermost(at);
         if matches!(routine.construct, Construct::Inlined) {
@@ -156,15 +156,11 @@ impl Placer {
             ItemKind::GroupEnd => self.group_end(item),
             ItemKind::CondEnd => self.condition_end(at),
             ItemKind::Else => self.otherwise(at),
-            ItemKind::IfEnd => self.conditional_end(at),
             ItemKind::Turns => self.bounded_turns(item),
             ItemKind::For => self.count(item),
             ItemKind::TurnEnd => self.turn_end(at),
-            ItemKind::LoopDone => self.loop_done(at),
             ItemKind::Lock => self.lock(item),
             ItemKind::LockEnd => self.lock_end(at),
-            ItemKind::LockElse => self.lock_refused(at),
-            ItemKind::LockDone => self.lock_done(at),
             _ => self.simple_item(item),
         }
     }
@@ -183,15 +179,17 @@ impl Placer {
             ItemKind::Try => {
                 self.attempt(Construct::Try, at);
             }
-            ItemKind::TryEnd | ItemKind::HandlerEnd => self.attempt_end(at),
+            ItemKind::LockElse => self.end(at),
+            ItemKind::TryEnd
+            | ItemKind::HandlerEnd
+            | ItemKind::ScopeEnd
+            | ItemKind::IfEnd
+            | ItemKind::LoopDone
+            | ItemKind::LockDone => self.construct_end(at),
             ItemKind::Handler => self.handle(at),
             ItemKind::Scope => {
                 let frame = self.frame(Construct::Scope, at);
                 self.begin(frame);
-            }
-            ItemKind::ScopeEnd => {
-                let frame = self.finish(at);
-                self.restore(&frame);
             }
             _ => self.bracket_item(item),
         }

@@ -1,18 +1,19 @@
 //! Statements that name, set and output values.
 
-use crate::placed::{PlacedKind, with_registers};
+use crate::placed::with_registers;
 use crate::placer::{MOST_WORDS, Meaning, Operand, Placer, Symbol};
 use crate::state::bit;
 use geos_opcodes::Opcode;
 use tkv_syntax::{Item, Why};
 
 impl Placer {
-    /// Names a word that is not set.
-    fn declare_unset(&mut self, at: u32) {
+    /// Names a word that is not set. Returns which one.
+    pub(crate) fn declare_unset(&mut self, at: u32) -> u8 {
         let register = self.take_named(at);
         self.keep_word(register);
         self.state.words &= !bit(register);
         self.declare_word(at, register);
+        register
     }
 
     /// Names a pointer, which only the value has, or another name too.
@@ -74,7 +75,8 @@ impl Placer {
     /// `let`: names value `a` of `b`.
     pub(crate) fn bind(&mut self, item: &Item) {
         if item.b == 0 {
-            return self.declare_unset(item.at);
+            self.declare_unset(item.at);
+            return;
         }
         let (index, count) = (item.a as usize, item.b as usize);
         if self.operand_count() != count || index >= count {
@@ -105,15 +107,8 @@ impl Placer {
 
     /// The last placed item sets another pointer, if it fetches this one.
     fn refetch(&mut self, from: u8, to: u8) -> bool {
-        let Some(placed) = self.placed.last_mut() else {
-            return false;
-        };
-        let fetches = matches!(placed.instr.opcode, Opcode::Deref | Opcode::Caelt);
-        if !matches!(placed.kind, PlacedKind::Do) || !fetches || placed.instr.b != from {
-            return false;
-        }
-        placed.instr.b = to;
-        true
+        let fetches = matches!(self.last_opcode(), Opcode::Deref | Opcode::Caelt);
+        self.redirect((false, fetches), from, to)
     }
 
     /// Sets the name to the value.

@@ -128,7 +128,7 @@ impl Placer {
         } else {
             self.branch(item.a, left, right, at)
         };
-        let no = self.brackets.len().saturating_sub(1).min(65_534) as u16;
+        let no = self.innermost_level();
         self.place_test(&branch, no, at);
         self.clear();
     }
@@ -152,9 +152,8 @@ impl Placer {
 
     /// An alternative ends: its tests hold.
     pub(crate) fn alternative_end(&mut self, at: u32) {
-        let own = self.brackets.len().saturating_sub(1).min(65_534) as u16;
-        self.leave_if_alive(own.saturating_sub(1), at);
-        self.end(at);
+        let around = self.innermost_level().saturating_sub(1);
+        self.leave_and_end(around, at);
     }
 
     /// The brackets around a condition begin: a block to whose end an alternative leaves that holds. If `!` is before them, it is within a
@@ -168,13 +167,9 @@ impl Placer {
 
     /// The brackets around a condition end. If their test fails, control leaves the alternative that contains them.
     pub(crate) fn group_end(&mut self, item: &Item) {
-        let own = self.brackets.len().saturating_sub(1).min(65_534) as u16;
-        let around = own.saturating_sub(1);
-        self.leave_if_alive(around, item.at);
-        self.end(item.at);
+        self.alternative_end(item.at);
         if item.a != 0 {
-            self.leave_if_alive(around.saturating_sub(1), item.at);
-            self.end(item.at);
+            self.alternative_end(item.at);
         }
     }
 
@@ -186,21 +181,13 @@ impl Placer {
         } else {
             frame.level
         };
-        self.leave_if_alive(no, at);
-        self.end(at);
+        self.leave_and_end(no, at);
     }
 
     /// The statements for which the condition holds are over.
     pub(crate) fn otherwise(&mut self, at: u32) {
         let frame = self.innermost(at);
-        self.leave_if_alive(frame.level, at);
+        self.leave_and_end(frame.level, at);
         self.restore(&frame);
-        self.end(at);
-    }
-
-    pub(crate) fn conditional_end(&mut self, at: u32) {
-        let frame = self.finish(at);
-        self.restore(&frame);
-        self.end(at);
     }
 }

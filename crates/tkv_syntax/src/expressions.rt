@@ -66,23 +66,15 @@ impl Parser {
         self.pending.len() > base
     }
 
-    /// The level of the innermost construct of a value that began when so much was not closed: 0, if it is no operation.
-    fn level(&self, base: usize) -> u8 {
+    /// The innermost construct that is not closed, of those that began after so many others.
+    pub(crate) fn innermost(&self, base: usize) -> Pending {
         match self.pending.last() {
-            Some(pending) => if self.is_open(base) { pending.level } else { 0 },
-            None => 0,
-        }
-    }
-
-    /// The innermost construct of a value that began when so much was not closed.
-    fn part(&self, base: usize) -> Option<Part> {
-        match self.pending.last() {
-            Some(pending) => if self.is_open(base) {
-                Some(pending.part)
-            } else {
-                None
+            Some(pending) if self.is_open(base) => *pending,
+            _ => Pending {
+                part: Part::Nothing,
+                item: Item::new(ItemKind::End, 0),
+                level: 0,
             },
-            None => None,
         }
     }
 
@@ -96,7 +88,7 @@ impl Parser {
     /// Adds the operations that bind at least so strongly and have their second value now.
     fn settle(&mut self, base: usize, level: u8) {
         for _ in 0..self.pending.len() {
-            if self.level(base) < level {
+            if self.innermost(base).level < level {
                 break;
             }
             self.close_innermost();
@@ -207,14 +199,13 @@ impl Parser {
     fn close_part(&mut self, base: usize) -> Next {
         self.settle(base, 1);
         let square = self.is(Word::BracketEnd);
-        let part = self.part(base);
-        if square != matches!(part, Some(Part::Index)) || part.is_none() {
-            return Next::Nothing;
-        }
-        if matches!(part, Some(Part::Group)) {
-            self.pending.pop();
-        } else {
-            self.close_innermost();
+        match self.innermost(base).part {
+            Part::Index if square => self.close_innermost(),
+            Part::Call if !square => self.close_innermost(),
+            Part::Group if !square => {
+                self.pending.pop();
+            }
+            _ => return Next::Nothing,
         }
         self.advance();
         Next::Operator
@@ -223,7 +214,7 @@ impl Parser {
     /// A comma within the arguments of a call, if it is one.
     fn next_argument(&mut self, base: usize) -> Next {
         self.settle(base, 1);
-        if !matches!(self.part(base), Some(Part::Call)) {
+        if !matches!(self.innermost(base).part, Part::Call) {
             return Next::Nothing;
         }
         if let Some(call) = self.pending.last_mut() {
@@ -272,6 +263,9 @@ impl Parser {
 
     /// A part of a value is not closed.
     fn refuse_open(&mut self, part: Part) {
+        if matches!(part, Part::Nothing) {
+            return;
+        }
         if is_truth(self.token.word) {
             self.refuse(Why::NoTruth, self.token.at);
         } else if matches!(part, Part::Index) {
@@ -293,8 +287,8 @@ impl Parser {
     fn side(&mut self) {
         let base = self.pending.len();
         let mut next = Next::Operand;
-        // Each turn takes a word, or is the last one.
-        for _ in 0..=self.text.len() {
+        // Each turn takes a word, or is the last one; the source has a word before the value.
+        for _ in 0..self.text.len() {
             next = match next {
                 Next::Operand => self.operand(),
                 Next::Operator => self.continuation(base),
@@ -302,9 +296,7 @@ impl Parser {
             };
         }
         self.settle(base, 1);
-        if let Some(part) = self.part(base) {
-            self.refuse_open(part);
-        }
+        self.refuse_open(self.innermost(base).part);
     }
 
     /// Adds a comparison, or its opposite, which is the next one if it is even.
@@ -361,7 +353,7 @@ impl Parser {
     fn brackets_condition(&self) -> bool {
         let mut depth: u32 = 0;
         let mut place = self.token.at;
-        for _ in 0..=self.text.len() {
+        for _ in 0..self.text.len() {
             let Ok(token) = next_token(&self.text, place) else {
                 return true;
             };
@@ -412,7 +404,7 @@ impl Parser {
     /// A comparison with what is before it, `!` and brackets, and the brackets that close after it.
     fn test(&mut self, base: usize) {
         let mut negated = false;
-        for _ in 0..=self.text.len() {
+        for _ in 0..self.text.len() {
             let not = self.takes(Word::Not);
             negated = negated != not;
             if self.is(Word::Paren) && (not || self.brackets_condition()) {
@@ -432,7 +424,7 @@ impl Parser {
         let base = self.pending.len();
         let at = self.token.at;
         self.put_plain(ItemKind::Alt, at);
-        for _ in 0..=self.text.len() {
+        for _ in 0..self.text.len() {
             self.test(base);
             if self.takes(Word::Both) {
                 continue;

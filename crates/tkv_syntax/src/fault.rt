@@ -4,7 +4,7 @@ use crate::words::Word;
 use std::alloc::{AllocError, AllocFailed};
 
 /// Why a source is refused. `Fault` says what its fields are for each.
-#[derive(Clone, Copy, PartialEq, Eq)]
+#[derive(Clone, Copy)]
 pub enum Why {
     /// An allocation was refused.
     Memory,

@@ -2,7 +2,7 @@
 //! it ends, as brackets have; a value has its operands before it.
 
 /// What an item is. `Item` has the fields that are named here.
-#[derive(Clone, Copy, PartialEq, Eq)]
+#[derive(Clone, Copy)]
 pub enum ItemKind {
     // Values, which follow their operands.
     /// The number `a`.

@@ -12,6 +12,8 @@ pub const MOST_BYTES: usize = 1_048_576;
 /// A construct that is not closed.
 #[derive(Clone, Copy)]
 pub(crate) enum Part {
+    /// Nothing is open.
+    Nothing,
     /// The statements of a routine.
     Body,
     Then,
@@ -41,7 +43,7 @@ pub(crate) enum Part {
 #[derive(Clone, Copy)]
 pub(crate) struct Pending {
     pub part: Part,
-    /// Of values and last statements: what is added when it is closed.
+    /// What is added when it is closed.
     pub item: Item,
     /// Of an operation: how strongly it binds, from 1. Otherwise 0.
     pub level: u8,
@@ -173,16 +175,10 @@ impl Parser {
         });
     }
 
-    /// A construct with statements begins after `{`.
-    pub(crate) fn enter(&mut self, part: Part) {
+    /// A construct with statements begins after `{`. At their end an item of this kind is added.
+    pub(crate) fn enter(&mut self, part: Part, kind: ItemKind) {
         let at = self.expect(Word::Brace);
-        self.begin_part(part, Item::new(ItemKind::End, at));
-    }
-
-    /// The last statements of a construct begin after `{`. At their end an item of this kind is added.
-    pub(crate) fn enter_last(&mut self, kind: ItemKind) {
-        let at = self.expect(Word::Brace);
-        self.begin_part(Part::Last, Item::new(kind, at));
+        self.begin_part(part, Item::new(kind, at));
     }
 
     /// Takes the last item away.
@@ -314,7 +310,7 @@ impl Parser {
         self.amend(start, flags, parameters);
         self.body = self.items.len();
         self.put_plain(ItemKind::Body, at);
-        self.enter(Part::Body);
+        self.enter(Part::Body, ItemKind::BodyEnd);
     }
 
     /// The bytes of a field, from the offset of its size.

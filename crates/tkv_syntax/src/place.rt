@@ -4,7 +4,7 @@ ghost use Rattle.std.specs.Prelude.{◌≡◌, ◌≤◌, ◌+◌, ◌==◌, len
 ghost use Rattle.std.specs.List.{count_by};
 
 /// A place of a source: line and column, from 1.
-#[derive(Clone, Copy, PartialEq, Eq)]
+#[derive(Clone, Copy)]
 pub struct Place {
     pub line: usize,
     pub column: usize,

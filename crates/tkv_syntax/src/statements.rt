@@ -34,7 +34,7 @@ impl Parser {
             self.flag(start);
             self.put_plain(ItemKind::Handler, at);
             if self.is(Word::Brace) {
-                return self.enter(Part::Handler);
+                return self.enter(Part::Handler, ItemKind::HandlerEnd);
             }
             self.leave();
             self.put_plain(ItemKind::HandlerEnd, at);
@@ -48,11 +48,13 @@ impl Parser {
 
     /// Refuses a statement that is a name with another name, a number or `{` after it.
     fn refuse_named(&mut self) {
-        if let Some(item) = self.items.last().copied()
-            && matches!(item.kind, ItemKind::Named)
-            && matches!(self.token.word, Word::Named | Word::Number | Word::Brace)
-        {
-            self.refuse(Why::NoStatement, item.at);
+        let named = matches!(self.token.word, Word::Named | Word::Number | Word::Brace);
+        match self.items.last() {
+            Some(item) if named && matches!(item.kind, ItemKind::Named) => {
+                let at = item.at;
+                self.refuse(Why::NoStatement, at);
+            }
+            _ => {}
         }
     }
 
@@ -108,11 +110,12 @@ impl Parser {
             b: pointer,
             c: call.a.min(255) + 256 * call.b.min(1),
         });
-        self.enter(if call.b == 0 {
+        let part = if call.b == 0 {
             Part::Locked
         } else {
             Part::Asking
-        });
+        };
+        self.enter(part, ItemKind::LockEnd);
     }
 
     /// Names of words, and what they are.
@@ -121,8 +124,8 @@ impl Parser {
         let mut names = [0; 7];
         let mut count: u32 = 0;
         for k in 0..7 {
-            names[k] = self.expect(Word::Named);
-            count = count.saturating_add(1);
+            names[k as usize] = self.expect(Word::Named);
+            count = k + 1;
             if !self.takes(Word::Comma) {
                 break;
             }
@@ -134,12 +137,11 @@ impl Parser {
         if valued {
             self.value();
         }
-        let mut index: u32 = 0;
-        for at in names {
-            if index < count {
-                self.add(ItemKind::Let, at, index, if valued { count } else { 0 });
+        let values = if valued { count } else { 0 };
+        for k in 0..7 {
+            if k < count {
+                self.add(ItemKind::Let, names[k as usize], k, values);
             }
-            index = index.saturating_add(1);
         }
         self.finish(start);
     }
@@ -148,7 +150,7 @@ impl Parser {
     fn output(&mut self, start: usize) {
         let out = self.expect(Word::Out);
         self.expect(Word::Paren);
-        for _ in 0..=self.text.len() {
+        for _ in 0..self.text.len() {
             let at = self.token.at;
             self.value();
             self.add(ItemKind::Put, at, out, 0);
@@ -202,7 +204,7 @@ impl Parser {
         let at = self.expect(Word::If);
         self.put_plain(ItemKind::If, at);
         self.condition();
-        self.enter(Part::Then);
+        self.enter(Part::Then, ItemKind::Else);
     }
 
     /// `while` with a condition, or `loop` without one.
@@ -217,7 +219,7 @@ impl Parser {
         self.require(Word::Max, Why::ExpectedMax);
         let most = self.constant();
         self.amend(start, most, u32::from(tests));
-        self.enter(Part::Turns);
+        self.enter(Part::Turns, ItemKind::TurnEnd);
     }
 
     fn counted(&mut self) {
@@ -236,18 +238,18 @@ impl Parser {
             1
         };
         self.add(ItemKind::For, at, step, 0);
-        self.enter(Part::Turns);
+        self.enter(Part::Turns, ItemKind::TurnEnd);
     }
 
     fn attempt(&mut self) {
         let at = self.expect(Word::Try);
         self.put_plain(ItemKind::Try, at);
-        self.enter(Part::Tried);
+        self.enter(Part::Tried, ItemKind::TryElse);
     }
 
     fn scope(&mut self) {
         self.put_plain(ItemKind::Scope, self.token.at);
-        self.enter_last(ItemKind::ScopeEnd);
+        self.enter(Part::Last, ItemKind::ScopeEnd);
     }
 
     fn mark(&mut self) {
@@ -287,48 +289,41 @@ impl Parser {
         let Some(pending) = self.pending.pop() else {
             return self.refuse(Why::Unreached, at);
         };
+        if matches!(pending.part, Part::Body) {
+            return self.close_body(at);
+        }
+        self.put_plain(pending.item.kind, at);
         match pending.part {
-            Part::Body => self.close_body(at),
             Part::Then => self.close_then(at),
-            Part::Other => self.close_if(at),
-            Part::Turns => {
-                self.put_plain(ItemKind::TurnEnd, at);
-                self.followed(at, ItemKind::LoopDone);
-            }
+            Part::Other => self.close_chain(at),
+            Part::Turns => self.followed(at, ItemKind::LoopDone),
             Part::Locked => {
-                self.put_plain(ItemKind::LockEnd, at);
-                self.handled(at, ItemKind::LockElse, ItemKind::LockDone);
+                self.put_plain(ItemKind::LockElse, at);
+                self.handled(ItemKind::LockDone);
             }
-            Part::Asking => {
-                self.put_plain(ItemKind::LockEnd, at);
-                self.put_plain(ItemKind::LockDone, at);
+            Part::Asking => self.put_plain(ItemKind::LockDone, at),
+            Part::Tried => self.handled(ItemKind::TryEnd),
+            Part::Handler => {
+                self.put_plain(ItemKind::End, at);
+                self.takes(Word::Stop);
             }
-            Part::Tried => self.handled(at, ItemKind::TryElse, ItemKind::TryEnd),
-            Part::Handler => self.close_handler(at),
-            _ => self.put_plain(pending.item.kind, at),
+            _ => {}
         }
     }
 
     /// The `else` that a construct requires, up to its statements.
-    fn handled(&mut self, at: u32, kind: ItemKind, last: ItemKind) {
-        self.put_plain(kind, at);
+    fn handled(&mut self, last: ItemKind) {
         self.expect(Word::Else);
-        self.enter_last(last);
+        self.enter(Part::Last, last);
     }
 
     /// What follows a construct: `else` and its statements, or its last item.
     fn followed(&mut self, at: u32, last: ItemKind) {
         if self.takes(Word::Else) {
-            self.enter_last(last);
+            self.enter(Part::Last, last);
         } else {
             self.put_plain(last, at);
         }
-    }
-
-    fn close_handler(&mut self, at: u32) {
-        self.put_plain(ItemKind::HandlerEnd, at);
-        self.put_plain(ItemKind::End, at);
-        self.takes(Word::Stop);
     }
 
     fn close_body(&mut self, at: u32) {
@@ -339,35 +334,27 @@ impl Parser {
         self.followed(at, ItemKind::BodyEnd);
     }
 
+    /// What follows the first statements of an `if`.
     fn close_then(&mut self, at: u32) {
-        self.put_plain(ItemKind::Else, at);
         if !self.takes(Word::Else) {
-            self.close_if(at);
+            self.put_plain(ItemKind::IfEnd, at);
+            self.close_chain(at);
         } else if self.is(Word::If) {
             self.begin_part(Part::Chained, Item::new(ItemKind::IfEnd, at));
             self.conditional();
         } else {
-            self.enter(Part::Other);
+            self.enter(Part::Other, ItemKind::IfEnd);
         }
     }
 
-    /// The end of an `if`, and of each `if` whose `else if` it is.
-    fn close_if(&mut self, at: u32) {
-        self.put_plain(ItemKind::IfEnd, at);
+    /// The end of each `if` whose `else if` has ended.
+    fn close_chain(&mut self, at: u32) {
         for _ in 0..self.pending.len() {
-            if !self.is_chained() {
+            if !matches!(self.innermost(0).part, Part::Chained) {
                 break;
             }
             self.pending.pop();
             self.put_plain(ItemKind::IfEnd, at);
-        }
-    }
-
-    /// Whether the innermost construct is an `else if`.
-    fn is_chained(&self) -> bool {
-        match self.pending.last() {
-            Some(pending) => matches!(pending.part, Part::Chained),
-            None => false,
         }
     }
 }

@@ -1,7 +1,7 @@
 //! The words of a source, one after another.
 
 use crate::fault::{Fault, Why};
-use crate::words::{Word, byte_at, is_letter, lettered, sign};
+use crate::words::{Word, byte_at, is_letter, word_at};
 
 /// A word of a source.
 #[derive(Clone, Copy)]
@@ -153,7 +153,8 @@ fn spelled(text: &[u8], at: u32) -> Result<Token, Fault> {
     if length > 16 {
         return Err(Fault::new(Why::LongName, at));
     }
-    Ok(Token::new(lettered(text, at, length), at, end))
+    let word = word_at(text, at, length as usize).unwrap_or(Word::Named);
+    Ok(Token::new(word, at, end))
 }
 
 /// The first word from a place on.
@@ -176,8 +177,11 @@ pub(crate) fn next_token(text: &[u8], from: u32) -> Result<Token, Fault> {
     if byte.is_ascii_alphabetic() {
         return spelled(text, at);
     }
-    match sign(text, at) {
-        Some((word, length)) => Ok(Token::new(word, at, plus(at, length))),
+    match word_at(text, at, 0) {
+        Some(word) => {
+            let length = if word.text().len() == 1 { 1 } else { 2 };
+            Ok(Token::new(word, at, plus(at, length)))
+        }
         None => Err(Fault::new(Why::NoWord, at)),
     }
 }

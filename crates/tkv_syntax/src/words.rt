@@ -164,14 +164,9 @@ pub fn name_at(text: &[u8], at: u32) -> Name {
 
 /// Whether these bytes are at an offset.
 fn stands(text: &[u8], at: u32, bytes: &[u8]) -> bool {
-    for (k, byte) in bytes.iter().enumerate() {
-        match text.get((at as usize).saturating_add(k)) {
-            Some(there) => {
-                if there != byte {
-                    return false;
-                }
-            }
-            None => return false,
+    for k in 0..bytes.len() {
+        if byte_at(text, (at as usize).saturating_add(k)) != bytes[k] {
+            return false;
         }
     }
     true
@@ -182,21 +177,12 @@ pub(crate) fn is_named(text: &[u8], at: u32, name: &[u8]) -> bool {
     stands(text, at, name) && !is_letter(byte_at(text, (at as usize).saturating_add(name.len())))
 }
 
-/// The word with this many letters here: a name, unless it is another word.
-pub(crate) fn lettered(text: &[u8], at: u32, length: u32) -> Word {
+/// The word or sign at an offset, if there is one with this many letters; for 0 with any number of them.
+pub(crate) fn word_at(text: &[u8], at: u32, letters: usize) -> Option<Word> {
     for (word, spelled) in &WORDS {
-        if spelled.len() == length as usize && stands(text, at, spelled.as_bytes()) {
-            return *word;
-        }
-    }
-    Word::Named
-}
-
-/// The sign at an offset, if there is one, and its length.
-pub(crate) fn sign(text: &[u8], at: u32) -> Option<(Word, u32)> {
-    for (word, spelled) in &WORDS {
-        if stands(text, at, spelled.as_bytes()) {
-            return Some((*word, if spelled.len() == 1 { 1 } else { 2 }));
+        let long = letters == 0 || spelled.len() == letters;
+        if long && stands(text, at, spelled.as_bytes()) {
+            return Some(*word);
         }
     }
     None
