@@ -424,3 +424,89 @@ tried_goes image choice i s is = go (is_fault i (uses_of i.opcode) s)
     go : (b : Bool) → GoesOn s (cond b Fault (exec image choice i i.opcode s))
     go true = tt
     go false = exec_goes image choice i i.opcode s (both_are (is_plain i.opcode) (has_target i.opcode) is.0 is.1)
+
+-- a plain instruction does the same in each image
+exec_alike : (image other : Parts) (choice : Choice) (i : Instr) (o : Opcode) (s : State) → is_plain o ≡ true
+    → exec image choice i o s ≡ exec other choice i o s
+exec_alike image other choice i op.Ldi s plain = refl
+exec_alike image other choice i op.Mov s plain = refl
+exec_alike image other choice i op.Add s plain = refl
+exec_alike image other choice i op.Sub s plain = refl
+exec_alike image other choice i op.And s plain = refl
+exec_alike image other choice i op.Shr s plain = refl
+exec_alike image other choice i op.Muli s plain = refl
+exec_alike image other choice i op.Chk s plain = refl
+exec_alike image other choice i op.Jmp s plain = absurd cc
+exec_alike image other choice i op.Beq s plain = refl
+exec_alike image other choice i op.Blt s plain = refl
+exec_alike image other choice i op.Setk s plain = refl
+exec_alike image other choice i op.Setkw s plain = refl
+exec_alike image other choice i op.Loop s plain = absurd cc
+exec_alike image other choice i op.Call s plain = absurd cc
+exec_alike image other choice i op.Ret s plain = absurd cc
+exec_alike image other choice i op.Out s plain = refl
+exec_alike image other choice i op.Mnew s plain = refl
+exec_alike image other choice i op.Mlock s plain = refl
+exec_alike image other choice i op.Munlock s plain = refl
+exec_alike image other choice i op.Mfree s plain = refl
+exec_alike image other choice i op.Sne s plain = refl
+exec_alike image other choice i op.Lalloc s plain = refl
+exec_alike image other choice i op.Lfree s plain = refl
+exec_alike image other choice i op.Lrealloc s plain = refl
+exec_alike image other choice i op.Lins s plain = refl
+exec_alike image other choice i op.Ldel s plain = refl
+exec_alike image other choice i op.Lsize s plain = refl
+exec_alike image other choice i op.Deref s plain = refl
+exec_alike image other choice i op.Lcontract s plain = refl
+exec_alike image other choice i op.Ldb s plain = refl
+exec_alike image other choice i op.Ldw s plain = refl
+exec_alike image other choice i op.Stb s plain = refl
+exec_alike image other choice i op.Stw s plain = refl
+exec_alike image other choice i op.Ldxb s plain = refl
+exec_alike image other choice i op.Ldxw s plain = refl
+exec_alike image other choice i op.Stxb s plain = refl
+exec_alike image other choice i op.Stxw s plain = refl
+exec_alike image other choice i op.Ldcb s plain = refl
+exec_alike image other choice i op.Ldcw s plain = refl
+exec_alike image other choice i op.Stcb s plain = refl
+exec_alike image other choice i op.Stcw s plain = refl
+exec_alike image other choice i op.Movp s plain = refl
+exec_alike image other choice i op.Copy s plain = refl
+exec_alike image other choice i op.Plen s plain = refl
+exec_alike image other choice i op.Canew s plain = refl
+exec_alike image other choice i op.Caadd s plain = refl
+exec_alike image other choice i op.Cains s plain = refl
+exec_alike image other choice i op.Cadel s plain = refl
+exec_alike image other choice i op.Cacount s plain = refl
+exec_alike image other choice i op.Caelt s plain = refl
+exec_alike image other choice i op.Cazero s plain = refl
+exec_alike image other choice i op.Caresize s plain = refl
+exec_alike image other choice i op.Vnew s plain = refl
+exec_alike image other choice i op.Vlock s plain = refl
+exec_alike image other choice i op.Vdirty s plain = refl
+exec_alike image other choice i op.Vunlock s plain = refl
+exec_alike image other choice i op.Vfree s plain = refl
+exec_alike image other choice i op.Vfind s plain = refl
+exec_alike image other choice i op.Vuid s plain = refl
+exec_alike image other choice i op.Vgetmap s plain = refl
+exec_alike image other choice i op.Vsetmap s plain = refl
+exec_alike image other choice i op.Vupdate s plain = refl
+exec_alike image other choice i op.Vsave s plain = refl
+exec_alike image other choice i op.Vrevert s plain = refl
+exec_alike image other choice i op.Gnew s plain = refl
+exec_alike image other choice i op.Gfree s plain = refl
+exec_alike image other choice i op.Inew s plain = refl
+exec_alike image other choice i op.Ifree s plain = refl
+exec_alike image other choice i op.Irealloc s plain = refl
+exec_alike image other choice i op.Iins s plain = refl
+exec_alike image other choice i op.Idel s plain = refl
+exec_alike image other choice i op.Ilock s plain = refl
+exec_alike image other choice i op.Idirty s plain = refl
+exec_alike image other choice i op.Iunlock s plain = refl
+exec_alike image other choice i op.Igetmap s plain = refl
+exec_alike image other choice i op.Isetmap s plain = refl
+
+pub tried_alike : (image other : Parts) (choice : Choice) (i : Instr) (s : State) → is_plain i.opcode ≡ true
+    → tried image choice i s ≡ tried other choice i s
+tried_alike image other choice i s plain =
+    ap (cond (is_fault i (uses_of i.opcode) s) Fault) (exec_alike image other choice i i.opcode s plain)

@@ -1,3 +1,4 @@
-mod Keeps
 mod Control
-mod Runs
+mod Examples
+mod Keeps
+pub mod Runs
