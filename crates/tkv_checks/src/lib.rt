@@ -1,4 +1,5 @@
 //! Whether the code of an image is that of a placed routine.
+#![tactic(auto)]
 
 mod checked;
 mod closes;
