@@ -5,15 +5,14 @@ ghost use Rattle.geos_verify.specs.Rules.{Accepted};
 ghost use Rattle.tkv_checks.specs.Checked.{IsWritten};
 
 use crate::emitter::{Coded, code_of};
-use crate::skeleton::{skeleton, with_budgets};
-use crate::tidy::tidied;
-use geos_image::{Image, Routine, Row};
+use crate::skeleton::{bare_point, skeleton, with_budgets};
+use geos_image::{Image, Point, Routine, Row, Whole};
 use geos_infer::{FindError, find_image};
 use geos_verify::{Checked, Reject, check};
-use std::alloc::Global;
+use std::alloc::{AllocError, Global};
 use tkv_checks::first_other;
-use tkv_places::{Declared, Placed, PlacedRoutine, declare, place_routine};
-use tkv_syntax::{Fault, ItemKind, Why, name_at, parse_source};
+use tkv_places::{Declared, Placed, declare, place_routine};
+use tkv_syntax::{Fault, ItemKind, Name, Why, name_at, parse_source};
 
 /// What a source is compiled to.
 #[derive(Drop)]
@@ -26,14 +25,18 @@ pub struct Compiled {
     pub places: Vec<u32>,
 }
 
-/// The routines that are coded, and their instructions.
+/// The routines that are coded, and their instructions. After the first fault they do not matter.
 #[derive(Drop)]
 struct Program {
     routines: Vec<Routine>,
     /// Where the source declares each.
     heads: Vec<u32>,
     placed: Vec<Vec<Placed>>,
-    code: Vec<Coded>,
+    points: Vec<Point>,
+    /// Of each instruction, where the source says it.
+    places: Vec<u32>,
+    /// The first fault, if there is one.
+    fault: Option<Fault>,
 }
 
 /// The exit row of a routine: borrowed blocks are still locked.
@@ -45,46 +48,59 @@ fn exit_of(entry: &Row) -> Row {
 }
 
 impl Program {
-    /// Adds the instructions of a routine; how many there are.
-    fn append(&mut self, code: &[Coded], at: u32) -> Result<u16, Fault> {
-        let base = self.code.len();
-        if base + code.len() > 4_096 {
-            return Err(Fault::new(Why::TooMany, at));
+    /// Keeps a fault, if it is the first one.
+    fn refuse(&mut self, fault: Fault) {
+        if self.fault.is_none() {
+            self.fault = Some(fault);
         }
-        for coded in code {
-            let mut moved = *coded;
-            if coded.leads {
-                moved.instr.target = moved.instr.target.saturating_add(base as u16);
-            }
-            self.code.push(moved)?;
-        }
-        Ok(code.len() as u16)
     }
 
-    /// Adds a public routine, and returns what is declared besides it.
-    fn add(
-        &mut self,
-        alloc: Global,
-        text: &[u8],
-        routine: PlacedRoutine,
-        at: u32,
-    ) -> Result<Declared, Fault> {
-        let code = tidied(alloc, code_of(alloc, &routine.placed)?)?;
-        let count = self.append(&code, at)?;
-        if self.routines.len() >= 32 {
-            return Err(Fault::new(Why::TooMany, at));
+    /// Refuses the source for what is at a place, unless the program has room and memory for it.
+    fn keep(&mut self, kept: bool, why: Why, at: u32) {
+        if !kept {
+            self.refuse(Fault::new(why, at));
         }
-        self.routines.push(Routine {
-            name: name_at(text, at),
+    }
+
+    /// Adds the instructions of a routine.
+    fn append(&mut self, code: &[Coded]) {
+        let base = self.points.len().min(4_096) as u16;
+        for coded in code {
+            let mut instr = coded.instr;
+            if coded.leads {
+                instr.target = instr.target.saturating_add(base);
+            }
+            let point = self.points.push(bare_point(instr)).is_ok();
+            let place = self.places.push(coded.at).is_ok();
+            self.keep(point && place, Why::Memory, 0);
+        }
+    }
+
+    /// Adds a public routine with its code, if the format has room for both.
+    fn add_code(&mut self, name: Name, at: u32, entry: &Row, code: &[Coded]) {
+        let count = code.len();
+        if self.points.len() + count > 4_096 || self.routines.len() >= 32 {
+            return self.keep(false, Why::TooMany, at);
+        }
+        self.append(code);
+        let routine = Routine {
+            name,
             public: true,
-            count,
+            count: count as u16,
             budget: u32::MAX,
-            exit: exit_of(&routine.entry),
-            entry: routine.entry,
-        })?;
-        self.heads.push(at)?;
-        self.placed.push(routine.placed)?;
-        Ok(routine.declared)
+            exit: exit_of(entry),
+            entry: *entry,
+        };
+        let kept = self.routines.push(routine).is_ok() && self.heads.push(at).is_ok();
+        self.keep(kept, Why::Memory, 0);
+    }
+
+    /// Adds a public routine.
+    fn add(&mut self, alloc: Global, name: Name, at: u32, entry: &Row, placed: &[Placed]) {
+        match code_of(alloc, placed) {
+            Ok(code) => self.add_code(name, at, entry, &code),
+            Err(fault) => self.refuse(fault),
+        }
     }
 }
 
@@ -109,12 +125,26 @@ fn program_of(alloc: Global, text: &[u8]) -> Result<Program, Fault> {
         routines: Vec::new(alloc),
         heads: Vec::new(alloc),
         placed: Vec::new(alloc),
-        code: Vec::new(alloc),
+        points: Vec::new(alloc),
+        places: Vec::new(alloc),
+        fault: None,
     };
     for index in 0..declared.items().len() {
         if let Some(at) = public_routine(&declared, index) {
             let routine = place_routine(alloc, declared, index)?;
-            declared = program.add(alloc, text, routine, at)?;
+            program.add(
+                alloc,
+                name_at(text, at),
+                at,
+                &routine.entry,
+                &routine.placed,
+            );
+            let kept = program.placed.push(routine.placed).is_ok();
+            program.keep(kept, Why::Memory, 0);
+            if let Some(fault) = program.fault {
+                return Err(fault);
+            }
+            declared = routine.declared;
         }
     }
     if program.routines.is_empty() {
@@ -123,45 +153,68 @@ fn program_of(alloc: Global, text: &[u8]) -> Result<Program, Fault> {
     Ok(program)
 }
 
+/// The place of a routine or instruction in the source, by the places of all; 0 if there is none.
+fn place_in(places: &[u32], index: u16) -> u32 {
+    match places.get(usize::from(index)) {
+        Some(at) => *at,
+        None => 0,
+    }
+}
+
+/// The image of a program, with rows and numbers of steps. Where a routine without a bound is declared, it is the fault's place.
+fn found(alloc: Global, blank: &Image, heads: &[u32]) -> Result<Whole, Fault> {
+    match find_image(alloc, blank) {
+        Ok(whole) => Ok(whole),
+        Err(FindError::Stopped(finding)) => {
+            let at = place_in(heads, finding.routine);
+            // By a call, so that the check does not go over each table here.
+            drop(finding);
+            Err(Fault::new(Why::NoSteps, at))
+        }
+        Err(FindError::Memory) => Err(Fault::new(Why::Memory, 0)),
+    }
+}
+
+/// An image that the format allows.
+fn allowed(image: Result<Option<Image>, AllocError>) -> Result<Image, Fault> {
+    match image {
+        Ok(Some(image)) => Ok(image),
+        Ok(None) => Err(Fault::new(Why::TooMany, 0)),
+        Err(_) => Err(Fault::new(Why::Memory, 0)),
+    }
+}
+
 /// The image of a program, with rows, numbers of steps and budgets.
 fn image_of(
     alloc: Global,
     routines: Vec<Routine>,
+    points: Vec<Point>,
     heads: &[u32],
-    code: &[Coded],
 ) -> Result<Image, Fault> {
-    let blank = match skeleton(alloc, routines, code)? {
-        Some(image) => image,
-        None => return Err(Fault::new(Why::TooMany, 0)),
-    };
-    let whole = match find_image(alloc, &blank) {
-        Ok(whole) => whole,
-        Err(FindError::Stopped(finding)) => {
-            let at = heads
-                .get(usize::from(finding.routine))
-                .copied()
-                .unwrap_or(0);
-            // By a call, so that the check does not go over each table here.
-            drop(finding);
-            return Err(Fault::new(Why::NoSteps, at));
-        }
-        Err(FindError::Memory) => return Err(Fault::new(Why::Memory, 0)),
-    };
-    match with_budgets(alloc, whole)? {
-        Some(image) => Ok(image),
-        None => Err(Fault::new(Why::TooMany, 0)),
-    }
+    let blank = allowed(skeleton(alloc, routines, points))?;
+    let whole = found(alloc, &blank, heads)?;
+    allowed(with_budgets(alloc, whole))
 }
 
 /// The fault of an instruction that the verifier refuses.
-fn refused(code: &[Coded], reject: Reject) -> Fault {
-    let at = match code.get(usize::from(reject.pc)) {
-        Some(coded) => coded.at,
-        None => 0,
-    };
+fn refused(places: &[u32], reject: Reject) -> Fault {
+    let at = place_in(places, reject.pc);
     Fault {
         number: reject.rule as u8 as u16,
         ..Fault::new(Why::Refused, at)
+    }
+}
+
+/// The image, if the verifier accepts it.
+fn checked_of(image: Image, places: &[u32]) -> Result<Checked, Fault>
+    ensures { IfOk result (λ checked. Accepted checked) }
+{
+    match check(image) {
+        Ok(checked) => Ok(checked),
+        Err((image, reject)) => {
+            drop(image);
+            Err(refused(places, reject))
+        }
     }
 }
 
@@ -174,23 +227,14 @@ fn compile_or_fault(alloc: Global, text: &[u8]) -> Result<Compiled, Fault>
         routines,
         heads,
         placed,
-        code,
+        points,
+        places,
+        fault: _,
     } = program_of(alloc, text)?;
-    let image = image_of(alloc, routines, &heads, &code)?;
-    let checked = match check(image) {
-        Ok(checked) => checked,
-        Err((image, reject)) => {
-            drop(image);
-            return Err(refused(&code, reject));
-        }
-    };
+    let image = image_of(alloc, routines, points, &heads)?;
+    let checked = checked_of(image, &places)?;
     if let Some(r) = first_other(checked.image(), &placed) {
-        let at = heads.get(usize::from(r)).copied().unwrap_or(0);
-        return Err(Fault::new(Why::OtherCode, at));
-    }
-    let mut places = Vec::new(alloc);
-    for coded in &code {
-        places.push(coded.at)?;
+        return Err(Fault::new(Why::OtherCode, place_in(&heads, r)));
     }
     Ok(Compiled {
         checked,

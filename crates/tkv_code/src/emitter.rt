@@ -1,5 +1,6 @@
 //! Instructions of a placed routine.
 
+use crate::tidy::tidy;
 use geos_image::Instr;
 use geos_opcodes::Opcode;
 use std::alloc::Global;
@@ -9,11 +10,14 @@ use tkv_syntax::{Fault, Why};
 /// An instruction, and where the source says it.
 #[derive(Clone, Copy)]
 pub(crate) struct Coded {
-    /// Its target is a label up to `Emitter::finish`, then a pc of the routine.
+    /// Its target is a label until all items are coded, then a pc of the routine.
     pub instr: Instr,
     /// Whether it has a target.
     pub leads: bool,
     pub at: u32,
+    /// Whether control comes to it, and its pc without what is left out: as far as `tidy` has found.
+    pub reached: bool,
+    pub pc: u16,
 }
 
 /// A place that instructions lead to.
@@ -116,7 +120,14 @@ impl Emitter {
             there.used = true;
         }
         self.reached = !matches!(instr.opcode, Opcode::Jmp | Opcode::Ret);
-        if self.code.push(Coded { instr, leads, at }).is_err() {
+        let coded = Coded {
+            instr,
+            leads,
+            at,
+            reached: true,
+            pc: 0,
+        };
+        if self.code.push(coded).is_err() {
             self.refuse(Why::Memory, at);
         }
     }
@@ -160,7 +171,10 @@ impl Emitter {
 
     /// Puts the label here, after the rungs that lead to it.
     fn put_label(&mut self, label: u16, at: u32) {
-        let awaited = self.waiting.iter().any(|rung| rung.to == label);
+        let mut awaited = false;
+        for rung in &self.waiting {
+            awaited = awaited || rung.to == label;
+        }
         if awaited {
             self.emit_to(jump(), label, at);
             self.put_waiting();
@@ -227,15 +241,12 @@ impl Emitter {
 
     /// Takes a rung of a closing away, if one is left.
     fn take_rung(&mut self, owner: u16) -> Option<Rung> {
-        match self.rungs.iter().position(|rung| rung.owner == owner) {
-            Some(k) => {
-                if k < self.rungs.len() {
-                    return Some(self.rungs.swap_remove(k));
-                }
-                None
+        for k in 0..self.rungs.len() {
+            if self.rungs[k].owner == owner {
+                return Some(self.rungs.swap_remove(k));
             }
-            None => None,
         }
+        None
     }
 
     /// The rungs of a closing that has ended wait for a place.
@@ -295,34 +306,26 @@ impl Emitter {
         }
     }
 
-    /// Each label becomes its pc.
-    fn finish(self) -> Vec<Coded> {
-        let Emitter {
-            mut code,
-            labels,
-            begun: _,
-            rungs: _,
-            waiting: _,
-            reached: _,
-            fault: _,
-        } = self;
-        aim(&mut code, &labels);
-        code
-    }
-}
-
-/// The targets become pcs.
-fn aim(code: &mut [Coded], labels: &[Label]) {
-    for k in 0..code.len() {
-        if code[k].leads
-            && let Some(label) = labels.get(usize::from(code[k].instr.target))
-        {
-            code[k].instr.target = label.pc;
+    /// Codes the items. Each label becomes its pc.
+    fn take_all(&mut self, placed: &[Placed]) {
+        for item in placed {
+            if self.fault.is_some() {
+                break;
+            }
+            self.take(item);
         }
+        for k in 0..self.code.len() {
+            if self.code[k].leads
+                && let Some(label) = self.labels.get(usize::from(self.code[k].instr.target))
+            {
+                self.code[k].instr.target = label.pc;
+            }
+        }
+        tidy(&mut self.code);
     }
 }
 
-/// The instructions of a placed routine, with pcs of the routine as targets.
+/// The instructions of a placed routine, with pcs of the routine as targets, without jumps that do nothing.
 pub(crate) fn code_of(alloc: Global, placed: &[Placed]) -> Result<Vec<Coded>, Fault> {
     let mut emitter = Emitter {
         code: Vec::new(alloc),
@@ -333,14 +336,9 @@ pub(crate) fn code_of(alloc: Global, placed: &[Placed]) -> Result<Vec<Coded>, Fa
         reached: true,
         fault: None,
     };
-    for item in placed {
-        if emitter.fault.is_some() {
-            break;
-        }
-        emitter.take(item);
-    }
+    emitter.take_all(placed);
     match emitter.fault {
         Some(fault) => Err(fault),
-        None => Ok(emitter.finish()),
+        None => Ok(emitter.code),
     }
 }

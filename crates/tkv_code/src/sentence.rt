@@ -3,10 +3,10 @@
 use geos_opcodes::Opcode;
 use geos_text::put_numbered;
 use std::alloc::AllocError;
-use tkv_syntax::{Fault, Why, name_at, place_of};
+use tkv_syntax::{Fault, Why, Word, name_at, place_of};
 
 /// The sentence of each fault, in the order of `Why`. `@` stands for the name at the fault's offset, `~` for the name at its other offset,
-/// `^` for the line of that, `#` for the number, `$` for the word, and `%` for what a call may have meant.
+/// `^` for the line of that, `#` for the number, `$` for the word, and `%` for what a call may have meant, or how it is written.
 static SENTENCES: [(Why, &str); 68] = [
     (Why::Memory, "memory is refused"),
     (Why::TooLong, "a source has at most 1,048,576 bytes"),
@@ -102,7 +102,7 @@ static SENTENCES: [(Why, &str); 68] = [
     ),
     (
         Why::NoWordHere,
-        "@ is not a word: read one through a pointer, as in p.w[0], or call the routine that returns one",
+        "@ is not a word: write @.size for the bytes of a structure, read through a pointer, as in p.w[0], or call the routine that returns a word",
     ),
     (
         Why::NoConstant,
@@ -116,7 +116,7 @@ static SENTENCES: [(Why, &str); 68] = [
         Why::NoPointer,
         "expected a pointer: deref and caelt return one, as in let p = deref(b, chunk, 8)?",
     ),
-    (Why::Arguments, "@ takes # arguments"),
+    (Why::Arguments, "@ takes # argument%"),
     (
         Why::NoField,
         "there is no field @: deref and caelt name the structure, and p.w[n] and p.b[n] need none",
@@ -135,7 +135,7 @@ static SENTENCES: [(Why, &str); 68] = [
     ),
     (
         Why::NoInstruction,
-        "no instruction does this with two words: one must be a constant, and a divisor a power of two",
+        "no instruction does this with two words: one must be a constant",
     ),
     (
         Why::Unsaid,
@@ -255,6 +255,102 @@ static SENTENCES: [(Why, &str); 68] = [
     ),
 ];
 
+/// Sentences that a byte or a word at a fault's offset decides: the fault, the word that it speaks of, what is there, and the sentence.
+static CLOSER: [(Why, Word, &str, &str); 7] = [
+    (
+        Why::Expected,
+        Word::Stop,
+        "[",
+        "expected ;: arrays are in chunks, as in let p = deref(b, c, 20)?; and then p.w[0]",
+    ),
+    (
+        Why::Expected,
+        Word::ParenEnd,
+        "else",
+        "expected ): name the value before this, as in let c = p.b[i] else break;, and write c here",
+    ),
+    (
+        Why::NoInstruction,
+        Word::End,
+        "*",
+        "one side of * must be a constant: add in a loop, as in for i in 0..y { p = p + x; }",
+    ),
+    (
+        Why::NoInstruction,
+        Word::End,
+        "/",
+        "a divisor is a power of two: subtract in a loop, as in while x >= 10 max 6553 { x = x - 10; q = q + 1; }",
+    ),
+    (
+        Why::NoInstruction,
+        Word::End,
+        "%",
+        "a divisor is a power of two: subtract in a loop, as in while x >= 10 max 6553 { x = x - 10; }",
+    ),
+    (
+        Why::NoInstruction,
+        Word::End,
+        "<<",
+        "a shift is by a constant: double in a loop, as in for i in 0..n { x = x << 1; }",
+    ),
+    (
+        Why::NoInstruction,
+        Word::End,
+        ">>",
+        "a shift is by a constant: halve in a loop, as in for i in 0..n { x = x >> 1; }",
+    ),
+];
+
+/// What calls of two and more arguments look like.
+static FORMS: [&str; 25] = [
+    "lalloc(b, size)",
+    "lfree(b, chunk)",
+    "lrealloc(b, chunk, size)",
+    "lins(b, chunk, offset, count)",
+    "ldel(b, chunk, offset, count)",
+    "lsize(b, chunk)",
+    "deref(b, chunk, size)",
+    "copy(p, q, size)",
+    "canew(b, size)",
+    "caadd(b, array, size)",
+    "cains(b, array, i, size)",
+    "cadel(b, array, i)",
+    "cacount(b, array)",
+    "caelt(b, array, i, size)",
+    "cazero(b, array)",
+    "caresize(b, array, i, size)",
+    "vnew(h, uid)",
+    "vfind(h, uid)",
+    "inew(g, size)",
+    "ifree(g, item)",
+    "irealloc(g, item, size)",
+    "iins(g, item, offset, count)",
+    "idel(g, item, offset, count)",
+    "ilock(g, item, size)",
+    "isetmap(g, item)",
+];
+
+/// Whether the text has these bytes at an offset.
+fn stands(text: &[u8], at: u32, bytes: &[u8]) -> bool {
+    for (k, byte) in bytes.iter().enumerate() {
+        if text.get((at as usize).saturating_add(k)) != Some(byte) {
+            return false;
+        }
+    }
+    true
+}
+
+/// The sentence of a fault.
+fn sentence_of(text: &[u8], fault: &Fault) -> &'static str {
+    for (why, word, there, sentence) in &CLOSER {
+        let same = *why as usize == fault.why as usize && *word == fault.word;
+        if same && stands(text, fault.at, there.as_bytes()) {
+            return sentence;
+        }
+    }
+    SENTENCES[fault.why as usize].1
+}
+
 /// Appends the name at an offset.
 fn put_name(out: &mut Vec<u8>, text: &[u8], at: u32) -> Result<(), AllocError> {
     for byte in name_at(text, at) {
@@ -265,8 +361,28 @@ fn put_name(out: &mut Vec<u8>, text: &[u8], at: u32) -> Result<(), AllocError> {
     Ok(())
 }
 
+/// Appends the form of the call, if its name has one, after the end of the word before it.
+fn put_form(out: &mut Vec<u8>, text: &[u8], fault: &Fault) -> Result<(), AllocError> {
+    if fault.number != 1 {
+        out.push(b's')?;
+    }
+    let name = name_at(text, fault.at);
+    for form in &FORMS {
+        let named = name_at(form.as_bytes(), 0) == name;
+        if named {
+            out.extend_from_slice(b": ")?;
+            out.extend_from_slice(form.as_bytes())?;
+        }
+    }
+    Ok(())
+}
+
 /// Appends what the call of a name may have meant that nothing has.
 fn put_meant(out: &mut Vec<u8>, text: &[u8], fault: &Fault) -> Result<(), AllocError> {
+    let name = name_at(text, fault.at);
+    if name[..4].eq_ignore_ascii_case(b"out\0") {
+        return out.extend_from_slice(b"write out(x)? to print a word");
+    }
     if fault.number == 0 {
         return out.extend_from_slice(b"fn declares a routine, and out(x)? prints a word");
     }
@@ -282,23 +398,36 @@ fn put_meant(out: &mut Vec<u8>, text: &[u8], fault: &Fault) -> Result<(), AllocE
     out.extend_from_slice(b" is meant")
 }
 
+/// Appends what `%` stands for.
+fn put_more(out: &mut Vec<u8>, text: &[u8], fault: &Fault) -> Result<(), AllocError> {
+    if matches!(fault.why, Why::Arguments) {
+        put_form(out, text, fault)
+    } else {
+        put_meant(out, text, fault)
+    }
+}
+
+/// Appends a byte of a sentence, or what it stands for.
+fn put_part(out: &mut Vec<u8>, text: &[u8], fault: &Fault, byte: u8) -> Result<(), AllocError> {
+    match byte {
+        b'@' => put_name(out, text, fault.at),
+        b'~' => put_name(out, text, fault.other),
+        b'^' => put_numbered(out, "", place_of(text, fault.other).line as u64),
+        b'#' => put_numbered(out, "", u64::from(fault.number)),
+        b'%' => put_more(out, text, fault),
+        b'$' => out.extend_from_slice(fault.word.text().as_bytes()),
+        other => out.extend_from_slice(&[other]),
+    }
+}
+
 /// Appends a fault as a sentence, after its line and column. `AllocError` if the allocator refuses memory.
 pub fn put_sentence(out: &mut Vec<u8>, text: &[u8], fault: &Fault) -> Result<(), AllocError> {
     let place = place_of(text, fault.at);
     put_numbered(out, "line ", place.line as u64)?;
     put_numbered(out, ", column ", place.column as u64)?;
     out.extend_from_slice(b": ")?;
-    let (_, sentence) = SENTENCES[fault.why as usize];
-    for byte in sentence.as_bytes() {
-        match *byte {
-            b'@' => put_name(out, text, fault.at)?,
-            b'~' => put_name(out, text, fault.other)?,
-            b'^' => put_numbered(out, "", place_of(text, fault.other).line as u64)?,
-            b'#' => put_numbered(out, "", u64::from(fault.number))?,
-            b'%' => put_meant(out, text, fault)?,
-            b'$' => out.extend_from_slice(fault.word.text().as_bytes())?,
-            other => out.push(other)?,
-        }
+    for byte in sentence_of(text, fault).as_bytes() {
+        put_part(out, text, fault, *byte)?;
     }
     Ok(())
 }

@@ -2,9 +2,8 @@
 
 ghost use Rattle.std.specs.Prelude.{◌≤◌, length};
 
-use crate::emitter::Coded;
 use geos_image::{
-    Image, MOST_INSTRS, MOST_ROUTINES, Point, Potential, Routine, Row, Whole, keys_of,
+    Image, Instr, MOST_INSTRS, MOST_ROUTINES, Point, Potential, Routine, Row, Whole, keys_of,
 };
 use std::alloc::{AllocError, Global};
 
@@ -22,23 +21,24 @@ fn key_count(routines: &[Routine], points: &[Point]) -> usize
     count
 }
 
-/// The image of code, with the open row at its key places and no potential; `None` if the format does not allow it.
+/// The point of an instruction, without row and potential.
+pub(crate) fn bare_point(instr: Instr) -> Point {
+    Point {
+        instr,
+        row: None,
+        potential: Potential {
+            constant: 0,
+            coefficients: [0; 4],
+        },
+    }
+}
+
+/// The image of code, with the open row at its key places; `None` if the format does not allow it.
 pub(crate) fn skeleton(
     alloc: Global,
     routines: Vec<Routine>,
-    code: &[Coded],
+    points: Vec<Point>,
 ) -> Result<Option<Image>, AllocError> {
-    let mut points = Vec::new(alloc);
-    for coded in code {
-        points.push(Point {
-            instr: coded.instr,
-            row: None,
-            potential: Potential {
-                constant: 0,
-                coefficients: [0; 4],
-            },
-        })?;
-    }
     if routines.len() > usize::from(MOST_ROUTINES) || points.len() > usize::from(MOST_INSTRS) {
         return Ok(None);
     }
@@ -54,10 +54,10 @@ fn budgeted(alloc: Global, image: &Image) -> Result<Vec<Routine>, AllocError> {
     let mut routines = Vec::new(alloc);
     for r in 0..image.count() {
         let pc = image.start(r);
-        let budget = image
-            .points()
-            .get(usize::from(pc))
-            .map_or(0, |point| point.potential.constant);
+        let budget = match image.points().get(usize::from(pc)) {
+            Some(point) => point.potential.constant,
+            None => 0,
+        };
         routines.push(Routine {
             budget,
             ..*image.routine(r)

@@ -2,7 +2,6 @@
 
 use crate::emitter::Coded;
 use geos_opcodes::Opcode;
-use std::alloc::{AllocError, Global};
 
 /// How often code is gone over: each time at most so many jumps are followed.
 const ROUNDS: usize = 8;
@@ -47,95 +46,111 @@ fn shorten(code: &mut [Coded]) {
     }
 }
 
-/// Sets a flag, if it is there.
-fn set(flags: &mut [bool], index: usize) {
-    if index < flags.len() {
-        flags[index] = true;
+/// Control comes to an instruction, if it is there.
+fn reach(code: &mut [Coded], index: usize) {
+    if index < code.len() {
+        code[index].reached = true;
     }
 }
 
-/// A flag for each instruction that control comes to. What a LOOP leads back to is taken to be one.
-fn reached(alloc: Global, code: &[Coded]) -> Result<Vec<bool>, AllocError> {
-    let mut flags = vec![in alloc; false; code.len()]?;
-    set(&mut flags, 0);
-    for coded in code {
-        if matches!(coded.instr.opcode, Opcode::Loop) {
-            set(&mut flags, usize::from(coded.instr.target));
+/// Control comes to the first instruction, and to what a LOOP leads back to.
+fn reach_first(code: &mut [Coded]) {
+    for k in 0..code.len() {
+        code[k].reached = false;
+    }
+    reach(code, 0);
+    for k in 0..code.len() {
+        let instr = code[k].instr;
+        if matches!(instr.opcode, Opcode::Loop) {
+            reach(code, usize::from(instr.target));
         }
     }
-    for (k, coded) in code.iter().enumerate() {
-        if flags.get(k).copied() == Some(true) {
-            if !matches!(coded.instr.opcode, Opcode::Jmp | Opcode::Ret) {
-                set(&mut flags, k.saturating_add(1));
-            }
-            if coded.leads {
-                set(&mut flags, usize::from(coded.instr.target));
-            }
+}
+
+/// Control comes from each instruction to those that follow it.
+fn reach_others(code: &mut [Coded]) {
+    for k in 0..code.len() {
+        let Coded {
+            instr,
+            leads,
+            reached,
+            ..
+        } = code[k];
+        if reached && !matches!(instr.opcode, Opcode::Jmp | Opcode::Ret) {
+            reach(code, k + 1);
+        }
+        if reached && leads {
+            reach(code, usize::from(instr.target));
         }
     }
-    Ok(flags)
 }
 
 /// Whether no instruction that control comes to is between a jump and its target.
-fn jumps_on(flags: &[bool], k: usize, target: u16) -> bool {
-    if usize::from(target) <= k {
+fn jumps_on(code: &[Coded], k: usize, target: usize) -> bool {
+    if target <= k || target > code.len() {
         return false;
     }
-    for (at, flag) in flags.iter().enumerate() {
-        if at >= usize::from(target) {
-            break;
-        }
-        if at > k && *flag {
+    for at in k + 1..target {
+        if code[at].reached {
             return false;
         }
     }
     true
 }
 
-/// Leaves out what control does not come to, and jumps to what is next.
-fn dropped(alloc: Global, code: &[Coded]) -> Result<Vec<Coded>, AllocError> {
-    let mut flags = reached(alloc, code)?;
-    for (k, coded) in code.iter().enumerate() {
-        let jumps = matches!(coded.instr.opcode, Opcode::Jmp);
-        let next = jumps && jumps_on(&flags, k, coded.instr.target);
-        if next && k < flags.len() {
-            flags[k] = false;
+/// Gives each instruction its new pc. Jumps to what is next are left out.
+fn number(code: &mut [Coded]) {
+    let mut pc: u16 = 0;
+    for k in 0..code.len() {
+        let instr = code[k].instr;
+        if matches!(instr.opcode, Opcode::Jmp) && jumps_on(code, k, usize::from(instr.target)) {
+            code[k].reached = false;
+        }
+        code[k].pc = pc;
+        if code[k].reached {
+            pc = pc.saturating_add(1);
         }
     }
-    let mut places = Vec::with_capacity(alloc, code.len())?;
-    let mut kept: u16 = 0;
-    for flag in &flags {
-        places.push(kept)?;
-        if *flag {
-            kept = kept.saturating_add(1);
-        }
-    }
-    let mut shorter = Vec::new(alloc);
-    for (k, coded) in code.iter().enumerate() {
-        if flags.get(k).copied() == Some(true) {
-            let mut moved = *coded;
-            if coded.leads {
-                moved.instr.target = places
-                    .get(usize::from(coded.instr.target))
-                    .copied()
-                    .unwrap_or(0);
-            }
-            shorter.push(moved)?;
-        }
-    }
-    Ok(shorter)
 }
 
-/// The code without jumps that do nothing.
-pub(crate) fn tidied(alloc: Global, code: Vec<Coded>) -> Result<Vec<Coded>, AllocError> {
-    let mut tidy = code;
+/// Each target becomes the new pc there.
+fn aim(code: &mut [Coded]) {
+    for k in 0..code.len() {
+        if code[k].leads {
+            let target = usize::from(code[k].instr.target);
+            code[k].instr.target = if target < code.len() {
+                code[target].pc
+            } else {
+                0
+            };
+        }
+    }
+}
+
+/// Leaves out what control does not come to.
+fn leave_out(code: &mut Vec<Coded>) {
+    let mut count = 0;
+    for k in 0..code.len() {
+        if code[k].reached && count <= k {
+            code[count] = code[k];
+            count += 1;
+        }
+    }
+    code.truncate(count);
+}
+
+/// Leaves out the jumps that do nothing.
+pub(crate) fn tidy(code: &mut Vec<Coded>) {
     for _ in 0..ROUNDS {
-        let before = tidy.len();
-        shorten(&mut tidy);
-        tidy = dropped(alloc, &tidy)?;
-        if tidy.len() == before {
+        let before = code.len();
+        shorten(code);
+        reach_first(code);
+        reach_others(code);
+        number(code);
+        aim(code);
+        leave_out(code);
+        if code.len() == before {
             break;
         }
     }
-    Ok(tidy)
 }
