@@ -1,0 +1,2 @@
+mod Chained
+mod Computed
