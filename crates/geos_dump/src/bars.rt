@@ -1,14 +1,14 @@
 //! Bars, and texts in columns.
 
-use std::alloc::AllocError;
+use sentence_text::Text;
 
 /// A bar of so many columns, of which the first ones are used, from a blank to the end of its line.
-pub(crate) fn put_bar(out: &mut Vec<u8>, used: usize, columns: usize) -> Result<(), AllocError> {
-    out.push(b' ')?;
+pub(crate) fn put_bar(out: &mut Text, used: usize, columns: usize) {
+    out.put(" ");
     for k in 0..columns {
-        out.push(if k < used { b'#' } else { b'.' })?;
+        out.put(if k < used { "#" } else { "." });
     }
-    out.extend_from_slice(b"\n")
+    out.put("\n")
 }
 
 /// The columns that a part of a whole takes, where the whole takes so many; one at least.
@@ -19,19 +19,15 @@ pub(crate) fn columns_of(part: u32, whole: u32, columns: usize) -> usize {
 }
 
 /// A text that ends where so many columns do, or past them where it is longer.
-pub(crate) fn put_right(out: &mut Vec<u8>, columns: usize, text: &str) -> Result<(), AllocError> {
+pub(crate) fn put_right(out: &mut Text, columns: usize, text: &str) {
     for _ in text.len()..columns {
-        out.push(b' ')?;
+        out.put(" ");
     }
-    out.extend_from_slice(text.as_bytes())
+    out.put(text)
 }
 
 /// A number that ends where so many columns do.
-pub(crate) fn put_number_right(
-    out: &mut Vec<u8>,
-    columns: usize,
-    number: u16,
-) -> Result<(), AllocError> {
+pub(crate) fn put_number_right(out: &mut Text, columns: usize, number: u16) {
     let mut digits = itoa::Buffer::new();
     put_right(out, columns, digits.format(number))
 }

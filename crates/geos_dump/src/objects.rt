@@ -6,7 +6,7 @@ ghost use Rattle.geos_terms.specs.Heap.{IsHeap};
 use crate::chunks::bytes_of;
 use geos_json::JsonLines;
 use lmem_block::next;
-use std::alloc::AllocError;
+use sentence_text::Text;
 use vm_file::{Directory, Entry};
 
 /// The user ID of a group.
@@ -41,17 +41,19 @@ fn put_chunk(objects: &mut JsonLines, side: &str, entry: Entry, c: u16, chunk: &
     objects.end()
 }
 
+/// Appends all lines.
+fn put_lines(out: &mut Text, objects: JsonLines) {
+    match objects.finish() {
+        Ok(lines) => out.put_bytes(&lines),
+        Err(_) => out.failed = true,
+    }
+}
+
 /// Appends a block or a group, and its chunks or items, with their bytes if those are requested.
-pub(crate) fn put_block_objects(
-    out: &mut Vec<u8>,
-    side: &str,
-    entry: Entry,
-    block: &[u8],
-    whole: bool,
-) -> Result<(), AllocError>
+pub(crate) fn put_block_objects(out: &mut Text, side: &str, entry: Entry, block: &[u8], whole: bool)
     requires { IsHeap block.now }
 {
-    let mut objects = JsonLines::new(*out.allocator());
+    let mut objects = JsonLines::new(*out.bytes.allocator());
     objects.begin(if entry.uid == GROUP { "group" } else { "block" });
     objects.text("directory", side.as_bytes());
     objects.number("handle", u64::from(entry.h));
@@ -63,22 +65,18 @@ pub(crate) fn put_block_objects(
         put_chunk(&mut objects, side, entry, c, bytes_of(block, c), whole);
         last = c;
     }
-    out.extend_from_slice(&objects.finish()?)
+    put_lines(out, objects)
 }
 
 /// Appends a directory with its map block and its map item.
-pub(crate) fn put_map_object(
-    out: &mut Vec<u8>,
-    side: &str,
-    directory: &Directory,
-) -> Result<(), AllocError> {
+pub(crate) fn put_map_object(out: &mut Text, side: &str, directory: &Directory) {
     let (group, item) = directory.map_item;
-    let mut objects = JsonLines::new(*out.allocator());
+    let mut objects = JsonLines::new(*out.bytes.allocator());
     objects.begin("map");
     objects.text("directory", side.as_bytes());
     handle(&mut objects, "block", directory.map_block);
     handle(&mut objects, "group", group);
     handle(&mut objects, "item", item);
     objects.end();
-    out.extend_from_slice(&objects.finish()?)
+    put_lines(out, objects)
 }

@@ -12,9 +12,9 @@ use crate::error::DumpError;
 use crate::sides::{Side, count, directory, entry_at};
 use crate::telling::{Telling, put_directories};
 use crate::text::put_directory_line;
-use geos_text::{Part, put_parts};
 use lmem_block::total_free;
-use std::alloc::{AllocError, Global};
+use sentence_text::Text;
+use std::alloc::Global;
 use vm_file::{Device, Directory, Entry, GROUP_UID, VmFile};
 
 /// The least width of a picture, in columns.
@@ -50,40 +50,30 @@ fn longest<D: Device + Drop>(file: &VmFile<D>, side: Side) -> u16 {
 }
 
 /// The line of the area that is read, and its bar, of which the pair takes so many bytes.
-fn put_area(out: &mut Vec<u8>, areas: Areas, pair: u32, width: u16) -> Result<(), AllocError> {
+fn put_area(out: &mut Text, areas: Areas, pair: u32, width: u16) {
     let columns = usize::from(width.saturating_sub(2));
     let name = if areas.second { "B" } else { "A" };
-    put_parts(
-        out,
-        &[
-            Part::Numbered("areas of ", areas.size as u64),
-            Part::Text(" bytes, "),
-            Part::Text(name),
-            Part::Numbered(" is read, ", pair as u64),
-            Part::Text(" taken\n"),
-            Part::Text(name),
-        ],
-    )?;
+    out.put_number("areas of ", u64::from(areas.size));
+    out.put(" bytes, ");
+    out.put(name);
+    out.put_number(" is read, ", u64::from(pair));
+    out.put(" taken\n");
+    out.put(name);
     put_bar(out, columns_of(pair, areas.size, columns), columns)
 }
 
 /// The line of a block of which so many bytes are used.
-pub(crate) fn put_row(
-    out: &mut Vec<u8>,
-    entry: Entry,
-    used: u16,
-    scale: Scale,
-) -> Result<(), AllocError> {
+pub(crate) fn put_row(out: &mut Text, entry: Entry, used: u16, scale: Scale) {
     let size = u32::from(entry.len);
     let columns = columns_of(size, u32::from(scale.longest), usize::from(scale.columns));
-    put_number_right(out, 6, entry.h)?;
+    put_number_right(out, 6, entry.h);
     if entry.uid == GROUP_UID {
-        put_right(out, 6, "group")?;
+        put_right(out, 6, "group");
     } else {
-        put_number_right(out, 6, entry.uid)?;
+        put_number_right(out, 6, entry.uid);
     }
-    put_number_right(out, 6, entry.len)?;
-    put_number_right(out, 6, used)?;
+    put_number_right(out, 6, entry.len);
+    put_number_right(out, 6, used);
     put_bar(out, columns_of(u32::from(used), size, columns), columns)
 }
 
@@ -96,17 +86,11 @@ pub(crate) fn used_bytes(block: &[u8]) -> u16
 }
 
 /// The line of a directory and, where it has blocks, that of their columns, after an empty line.
-pub(crate) fn put_columns_line(
-    out: &mut Vec<u8>,
-    word: &str,
-    directory: &Directory,
-) -> Result<(), AllocError> {
-    out.extend_from_slice(b"\n")?;
-    put_directory_line(out, word, directory)?;
-    if directory.entries.is_empty() {
-        Ok(())
-    } else {
-        out.extend_from_slice(b"handle   uid  size  used\n")
+pub(crate) fn put_columns_line(out: &mut Text, word: &str, directory: &Directory) {
+    out.put("\n");
+    put_directory_line(out, word, directory);
+    if !directory.entries.is_empty() {
+        out.put("handle   uid  size  used\n");
     }
 }
 
@@ -136,9 +120,9 @@ pub fn map<D: Device + Drop>(
         longest: longest(file, Side::Current).max(longest(file, Side::Saved)),
         columns: width.saturating_sub(FRONT),
     };
-    let mut out = Vec::new(alloc);
+    let mut out = Text::new(alloc);
     let pair = taken(file, Side::Current) + taken(file, Side::Saved);
-    put_area(&mut out, areas, pair, width)?;
+    put_area(&mut out, areas, pair, width);
     put_directories(alloc, &mut out, Telling::Picture(scale), file)?;
-    Ok(out)
+    Ok(out.finish()?)
 }

@@ -12,8 +12,10 @@ use vm_file::{Device, Directory, Disk, Entry, MOST_BLOCKS, VmFile};
 
 /// One of the directories of a file.
 #[derive(Clone, Copy)]
-pub(crate) enum Side {
+pub enum Side {
+    /// The current directory.
     Current,
+    /// The saved directory.
     Saved,
 }
 

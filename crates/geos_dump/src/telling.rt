@@ -10,7 +10,8 @@ use crate::picture::{Scale, put_columns_line, put_row, used_bytes};
 use crate::sides::{Listed, Side, count, directory, entry_at, read_block, word_of};
 use crate::text::{Detail, put_block_text, put_directory_text};
 use geos_terms::MOST_BLOCK_BYTES;
-use std::alloc::{AllocError, Global};
+use sentence_text::Text;
+use std::alloc::Global;
 use vm_file::{Device, Directory, Entry, VmFile};
 
 /// What is printed of a file.
@@ -23,13 +24,7 @@ pub(crate) enum Telling {
 }
 
 /// What is printed of a block.
-fn put_told(
-    out: &mut Vec<u8>,
-    telling: Telling,
-    word: &str,
-    entry: Entry,
-    bytes: &[u8],
-) -> Result<(), AllocError>
+fn put_told(out: &mut Text, telling: Telling, word: &str, entry: Entry, bytes: &[u8])
     requires heap { IsHeap bytes.now }
     requires size { length bytes.now < 65536 }
 {
@@ -40,12 +35,7 @@ fn put_told(
 }
 
 /// What is printed before the blocks of a directory.
-fn put_head(
-    out: &mut Vec<u8>,
-    telling: Telling,
-    word: &str,
-    directory: &Directory,
-) -> Result<(), AllocError> {
+fn put_head(out: &mut Text, telling: Telling, word: &str, directory: &Directory) {
     match telling {
         Telling::Text(detail) => put_directory_text(out, detail, word, directory),
         Telling::Picture(_) => put_columns_line(out, word, directory),
@@ -54,7 +44,7 @@ fn put_head(
 
 /// Reads a block, and tells of it.
 fn put_block<D: Device + Drop>(
-    out: &mut Vec<u8>,
+    out: &mut Text,
     telling: Telling,
     file: &mut VmFile<D>,
     block: Listed,
@@ -68,13 +58,13 @@ fn put_block<D: Device + Drop>(
     let Listed { side, entry } = block;
     let bytes = &mut buffer[..usize::from(entry.len)];
     read_block(file, side, entry.h, bytes)?;
-    put_told(out, telling, word_of(side), entry, bytes)?;
+    put_told(out, telling, word_of(side), entry, bytes);
     Ok(())
 }
 
 /// The blocks of a directory.
 fn put_blocks<D: Device + Drop>(
-    out: &mut Vec<u8>,
+    out: &mut Text,
     telling: Telling,
     file: &mut VmFile<D>,
     side: Side,
@@ -93,7 +83,7 @@ fn put_blocks<D: Device + Drop>(
 
 /// A directory with its blocks.
 fn put_directory<D: Device + Drop>(
-    out: &mut Vec<u8>,
+    out: &mut Text,
     telling: Telling,
     file: &mut VmFile<D>,
     side: Side,
@@ -103,7 +93,7 @@ fn put_directory<D: Device + Drop>(
     ensures looks { IsOnlyRead D.medium file.old file.new }
     ensures cause { Causes (D.medium.honest file.old.device) (D.medium.failed file.old.device) (D.medium.failed file.new.device) result }
 {
-    put_head(out, telling, word_of(side), directory(file, side))?;
+    put_head(out, telling, word_of(side), directory(file, side));
     put_blocks(out, telling, file, side, buffer)
 }
 
@@ -111,7 +101,7 @@ fn put_directory<D: Device + Drop>(
 /// greatest block's size.
 pub(crate) fn put_directories<D: Device + Drop>(
     alloc: Global,
-    out: &mut Vec<u8>,
+    out: &mut Text,
     telling: Telling,
     file: &mut VmFile<D>,
 ) -> Result<(), DumpError>

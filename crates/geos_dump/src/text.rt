@@ -10,8 +10,8 @@ use crate::chunks::{put_chunk_dumps, put_chunks};
 use crate::error::DumpError;
 use crate::objects::{put_block_objects, put_map_object};
 use crate::telling::{Telling, put_directories};
-use geos_text::{Part, put_parts};
-use std::alloc::{AllocError, Global};
+use sentence_text::Text;
+use std::alloc::Global;
 use vm_file::{Device, Directory, Entry, VmFile};
 
 /// How much is printed of a block.
@@ -28,36 +28,25 @@ pub enum Detail {
 }
 
 /// The line of a block.
-fn put_block_line(out: &mut Vec<u8>, h: u16, uid: u16, bytes: &[u8]) -> Result<(), AllocError>
+fn put_block_line(out: &mut Text, entry: Entry, bytes: &[u8])
     requires { IsHeap bytes.now }
 {
-    put_parts(
-        out,
-        &[
-            Part::Numbered("", h as u64),
-            Part::Numbered(" uid ", uid as u64),
-            Part::Numbered(" size ", bytes.len() as u64),
-            Part::Text(" chunks"),
-        ],
-    )?;
-    put_chunks(out, bytes)?;
-    out.extend_from_slice(b"\n")
+    out.put_number("", u64::from(entry.h));
+    out.put_number(" uid ", u64::from(entry.uid));
+    out.put_number(" size ", bytes.len() as u64);
+    out.put(" chunks");
+    put_chunks(out, bytes);
+    out.put("\n")
 }
 
 /// What is printed of a block of the directory that the word names.
-pub(crate) fn put_block_text(
-    out: &mut Vec<u8>,
-    detail: Detail,
-    word: &str,
-    entry: Entry,
-    bytes: &[u8],
-) -> Result<(), AllocError>
+pub(crate) fn put_block_text(out: &mut Text, detail: Detail, word: &str, entry: Entry, bytes: &[u8])
     requires { IsHeap bytes.now }
 {
     match detail {
-        Detail::Lines => put_block_line(out, entry.h, entry.uid, bytes),
+        Detail::Lines => put_block_line(out, entry, bytes),
         Detail::Bytes => {
-            put_block_line(out, entry.h, entry.uid, bytes)?;
+            put_block_line(out, entry, bytes);
             put_chunk_dumps(out, bytes)
         }
         Detail::Objects => put_block_objects(out, word, entry, bytes, false),
@@ -67,11 +56,11 @@ pub(crate) fn put_block_text(
 
 /// What is printed before the blocks of a directory.
 pub(crate) fn put_directory_text(
-    out: &mut Vec<u8>,
+    out: &mut Text,
     detail: Detail,
     word: &str,
     directory: &Directory,
-) -> Result<(), AllocError> {
+) {
     match detail {
         Detail::Lines | Detail::Bytes => put_directory_line(out, word, directory),
         Detail::Objects | Detail::WholeObjects => put_map_object(out, word, directory),
@@ -79,22 +68,13 @@ pub(crate) fn put_directory_text(
 }
 
 /// The line of a directory, after a word.
-pub(crate) fn put_directory_line(
-    out: &mut Vec<u8>,
-    word: &str,
-    directory: &Directory,
-) -> Result<(), AllocError> {
+pub(crate) fn put_directory_line(out: &mut Text, word: &str, directory: &Directory) {
     let (group, item) = directory.map_item;
-    put_parts(
-        out,
-        &[
-            Part::Text(word),
-            Part::Numbered(" map ", directory.map_block as u64),
-            Part::Numbered(" item ", group as u64),
-            Part::Numbered(" ", item as u64),
-            Part::Text("\n"),
-        ],
-    )
+    out.put(word);
+    out.put_number(" map ", u64::from(directory.map_block));
+    out.put_number(" item ", u64::from(group));
+    out.put_number(" ", u64::from(item));
+    out.put("\n")
 }
 
 /// The text of a file's contents: for the current directory and for the saved one a line with its map block and its map item, and a line
@@ -115,7 +95,7 @@ pub fn dump<D: Device + Drop>(
     ensures reads { ReadsOnly D.medium file.old.device file.new.device }
     ensures cause { Causes (D.medium.honest file.old.device) (D.medium.failed file.old.device) (D.medium.failed file.new.device) result }
 {
-    let mut out = Vec::new(alloc);
+    let mut out = Text::new(alloc);
     put_directories(alloc, &mut out, Telling::Text(detail), file)?;
-    Ok(out)
+    Ok(out.finish()?)
 }

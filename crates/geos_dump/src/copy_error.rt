@@ -1,18 +1,13 @@
 //! Why a file was not copied.
 
-use thiserror::Error;
-
 /// Why a file was not copied.
-#[derive(Clone, Copy, Debug, Drop, PartialEq, Eq, Error)]
+#[derive(Clone, Copy, Drop)]
 pub enum CopyError {
     /// The directories with their blocks take so many bytes, and an area of the copy has fewer.
-    #[error("too big: {0} bytes")]
     TooBig(u32),
     /// An allocation was refused.
-    #[error("memory")]
     Memory,
     /// A device failed, or did not return what was written.
-    #[error("disk")]
     Disk,
 }
 

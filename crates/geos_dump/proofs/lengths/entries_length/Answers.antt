@@ -1,7 +1,7 @@
 use Rattle.std.proofs.Common.{arith}
 use Rattle.vm_file.specs.declared.directory.Entry.{Entry}
 use Rattle.vm_file.proofs.Lengths.{entries_length-more}
-use Rattle.file_copies.proofs.lengths.entries_length.Goals as goal
+use Rattle.geos_dump.proofs.lengths.entries_length.Goals as goal
 
 pub loop-e-preserved : goal.loop-e-preserved
 loop-e-preserved c =

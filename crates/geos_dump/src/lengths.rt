@@ -4,7 +4,7 @@ ghost use Rattle.std.specs.Prelude.{◌≡◌, ◌<◌, ◌≤◌, ◌^◌, leng
 ghost use Rattle.vm_file.specs.Contents.{pair_length};
 ghost use Rattle.vm_file.specs.Directories.{directory_length, entries_length};
 ghost use Rattle.vm_file.specs.State.{pair_of};
-ghost use Rattle.file_copies.specs.Sides.{copied};
+ghost use Rattle.geos_dump.specs.Copies.{copied};
 
 use crate::sides::{Side, directory};
 use vm_file::{Device, Directory, Entry, MOST_BLOCKS, VmFile};

@@ -1,8 +1,7 @@
 use Rattle.std.proofs.Common.{◌≡◌, ℕ, ◌<◌, get_or}
 use Rattle.vm_file.specs.State.{pair_of}
-use Rattle.geos_dump.specs.Sides.{IsOnlyRead, no_block}
-use Rattle.file_copies.specs.Sides.{contents_on}
-use Rattle.file_copies.proofs.compare.same_contents.Given as goal
+use Rattle.geos_dump.specs.Sides.{IsOnlyRead, contents_on, no_block}
+use Rattle.geos_dump.proofs.compare.same_contents.Given as goal
 
 abbrev pub invariant-loop-i : goal.invariant-loop-i
 invariant-loop-i g l =

@@ -7,14 +7,14 @@ ghost use Rattle.vm_file.specs.Contents.{pair_length};
 ghost use Rattle.vm_file.specs.Device.{Only};
 ghost use Rattle.vm_file.specs.Reading.{found};
 ghost use Rattle.vm_file.specs.State.{pair_of};
-ghost use Rattle.file_copies.specs.Sides.{AnswersFit, copied};
+ghost use Rattle.geos_dump.specs.Copies.{AnswersFit, copied};
 
+use crate::areas::read_areas;
 use crate::compare::is_copy;
-use crate::error::{CopyError, Fault};
+use crate::copy_error::{CopyError, Fault};
 use crate::lengths::copy_length;
 use crate::sides::Side;
 use crate::spelling::spelled;
-use geos_dump::read_areas;
 use std::alloc::Global;
 use vm_file::{Device, Disk, OpenError, VmFile};
 

@@ -3,7 +3,7 @@
 ghost use Rattle.std.specs.Prelude.{◌≡◌, ◌≢◌, IfOk, MatchOption};
 
 use crate::lines::DumpLine;
-use crate::places::Place;
+use sentence_text::Text;
 use std::alloc::{AllocError, Global};
 
 /// The lines of the directory, the block and the chunk that both dumps are in, if they are the same in both and were not printed yet.
@@ -15,14 +15,13 @@ struct Heads<'a> {
     chunk: &'a [u8],
 }
 
-/// Appends a line after a sign, unless it is empty.
-fn put_line(out: &mut Vec<u8>, sign: u8, line: &[u8]) -> Result<(), AllocError> {
-    if line.is_empty() {
-        return Ok(());
+/// Writes a line after a sign, unless it is empty.
+fn put_line(out: &mut Text, sign: &str, line: &[u8]) {
+    if !line.is_empty() {
+        out.put(sign);
+        out.put_bytes(line);
+        out.put("\n");
     }
-    out.push(sign)?;
-    out.extend_from_slice(line)?;
-    out.extend_from_slice(b"\n")
 }
 
 impl<'a> Heads<'a> {
@@ -61,18 +60,28 @@ impl<'a> Heads<'a> {
         }
     }
 
-    /// Appends the lines of what a place is in.
-    fn put(self, out: &mut Vec<u8>, place: Place) -> Result<(), AllocError> {
-        if place.is_in_directory() {
-            put_line(out, b' ', self.directory)?;
+    /// Writes a line of one dump only after a sign, below the lines of what it is in.
+    fn put_single(self, out: &mut Text, sign: &str, line: DumpLine<'_>) {
+        if line.place.is_in_directory() {
+            put_line(out, " ", self.directory);
         }
-        if place.is_in_block() {
-            put_line(out, b' ', self.block)?;
+        if line.place.is_in_block() {
+            put_line(out, " ", self.block);
         }
-        if place.is_in_chunk() {
-            put_line(out, b' ', self.chunk)?;
+        if line.place.is_in_chunk() {
+            put_line(out, " ", self.chunk);
         }
-        Ok(())
+        put_line(out, sign, line.text)
+    }
+
+    /// Writes the lines of both dumps at a place, unless they are the same, and returns what is the same in both from then on.
+    fn put_both(self, out: &mut Text, left: DumpLine<'a>, right: DumpLine<'_>) -> Heads<'a> {
+        if left.text == right.text {
+            return self.after(left);
+        }
+        self.put_single(out, "-", left);
+        put_line(out, "+", right.text);
+        Heads::none()
     }
 }
 
@@ -84,62 +93,41 @@ struct Merge<'a> {
     heads: Heads<'a>,
 }
 
-/// Appends a line of one dump only.
-fn put_single<'a>(
-    out: &mut Vec<u8>,
-    heads: Heads<'a>,
-    sign: u8,
-    line: DumpLine<'a>,
-) -> Result<(), AllocError> {
-    heads.put(out, line.place)?;
-    put_line(out, sign, line.text)
-}
-
-/// Appends the lines of both dumps at a place, unless they are the same, and returns what is the same in both from then on.
-fn put_both<'a>(out: &mut Vec<u8>, at: Merge<'a>) -> Result<Heads<'a>, AllocError> {
-    if at.left.text == at.right.text {
-        return Ok(at.heads.after(at.left));
-    }
-    put_single(out, at.heads, b'-', at.left)?;
-    put_line(out, b'+', at.right.text)?;
-    Ok(Heads::none())
-}
-
 impl<'a> Merge<'a> {
     /// Whether both dumps are at their ends.
     fn is_done(self) -> bool {
         self.left.text.is_empty() && self.right.text.is_empty()
     }
 
-    /// Appends the next line of one dump, or the next lines of both if these have the same place, unless the lines are the same.
-    fn step(self, out: &mut Vec<u8>) -> Result<Merge<'a>, AllocError> {
-        if self.left.place.is_before(self.right.place) {
-            put_single(out, self.heads, b'-', self.left)?;
-            Ok(Merge {
-                left: self.left.next(),
-                right: self.right,
+    /// Writes the next line of one dump, or the next lines of both if these have the same place, unless the lines are the same.
+    fn step(self, out: &mut Text) -> Merge<'a> {
+        let Merge { left, right, heads } = self;
+        if left.place.is_before(right.place) {
+            heads.put_single(out, "-", left);
+            Merge {
+                left: left.next(),
+                right,
                 heads: Heads::none(),
-            })
-        } else if self.right.place.is_before(self.left.place) {
-            put_single(out, self.heads, b'+', self.right)?;
-            Ok(Merge {
-                left: self.left,
-                right: self.right.next(),
+            }
+        } else if right.place.is_before(left.place) {
+            heads.put_single(out, "+", right);
+            Merge {
+                left,
+                right: right.next(),
                 heads: Heads::none(),
-            })
+            }
         } else {
-            let heads = put_both(out, self)?;
-            Ok(Merge {
-                left: self.left.next(),
-                right: self.right.next(),
-                heads,
-            })
+            Merge {
+                left: left.next(),
+                right: right.next(),
+                heads: heads.put_both(out, left, right),
+            }
         }
     }
 }
 
-/// Appends what differs between two dumps. Each step takes a line at least.
-fn put_differences(out: &mut Vec<u8>, one: &[u8], other: &[u8]) -> Result<(), AllocError> {
+/// Writes what differs between two dumps. Each step takes a line at least.
+fn put_differences(out: &mut Text, one: &[u8], other: &[u8]) {
     let mut at = Merge {
         left: DumpLine::first(one),
         right: DumpLine::first(other),
@@ -149,9 +137,8 @@ fn put_differences(out: &mut Vec<u8>, one: &[u8], other: &[u8]) -> Result<(), Al
         if at.is_done() {
             break;
         }
-        at = at.step(out)?;
+        at = at.step(out);
     }
-    Ok(())
 }
 
 /// The lines that differ between two dumps with all bytes, if any do: those of the first one after `-`, those of the other one after `+`. Before
@@ -163,7 +150,7 @@ pub fn differences(alloc: Global, one: &[u8], other: &[u8]) -> Result<Option<Vec
     if one == other {
         return Ok(None);
     }
-    let mut out = Vec::new(alloc);
-    put_differences(&mut out, one, other)?;
-    Ok(Some(out))
+    let mut out = Text::new(alloc);
+    put_differences(&mut out, one, other);
+    Ok(Some(out.finish()?))
 }

@@ -1,12 +1,12 @@
 //! The bytes of a copy.
 
 ghost use Rattle.std.specs.Prelude.{◌≡◌, ◌<◌, length, IfOk};
-ghost use Rattle.geos_dump.specs.Sides.{IsOnlyRead};
+ghost use Rattle.geos_dump.specs.Sides.{IsOnlyRead, contents_on};
 ghost use Rattle.vm_file.specs.State.{pair_of};
-ghost use Rattle.file_copies.specs.Sides.{contents_on};
 
-use crate::error::Fault;
+use crate::copy_error::Fault;
 use crate::sides::{Side, count, directory, entry_at, read_block};
+use sentence_text::Text;
 use std::alloc::Global;
 use vm_file::{Device, Disk, VmFile};
 
@@ -23,14 +23,6 @@ pub(crate) fn zeros(alloc: Global, len: usize) -> Result<Vec<u8>, Fault>
     }
 }
 
-/// Appends bytes. `Memory` if an allocation is refused.
-fn put(out: &mut Vec<u8>, bytes: &[u8]) -> Result<(), Fault> {
-    match out.extend_from_slice(bytes) {
-        Ok(()) => Ok(()),
-        Err(_) => Err(Fault::Memory),
-    }
-}
-
 /// The bytes of three words, the low byte first.
 fn bytes_of(one: u16, two: u16, three: u16) -> [u8; 6] {
     let (a, b, c) = (one.to_le_bytes(), two.to_le_bytes(), three.to_le_bytes());
@@ -40,7 +32,7 @@ fn bytes_of(one: u16, two: u16, three: u16) -> [u8; 6] {
 /// Appends a block with its entry.
 fn put_block<D: Device + Drop>(
     alloc: Global,
-    out: &mut Vec<u8>,
+    out: &mut Text,
     file: &mut VmFile<D>,
     side: Side,
     i: usize,
@@ -57,16 +49,15 @@ fn put_block<D: Device + Drop>(
         Ok(()) => {}
         Err(Disk) => return Err(Fault::Disk),
     }
-    match put(out, &bytes_of(entry.h, entry.uid, entry.len)) {
-        Ok(()) => put(out, &block),
-        Err(error) => Err(error),
-    }
+    out.put_bytes(&bytes_of(entry.h, entry.uid, entry.len));
+    out.put_bytes(&block);
+    Ok(())
 }
 
 /// Appends the blocks of a directory.
 fn put_blocks<D: Device + Drop>(
     alloc: Global,
-    out: &mut Vec<u8>,
+    out: &mut Text,
     file: &mut VmFile<D>,
     side: Side,
 ) -> Result<(), Fault>
@@ -84,7 +75,7 @@ fn put_blocks<D: Device + Drop>(
 /// Appends a directory with its blocks.
 fn put_directory<D: Device + Drop>(
     alloc: Global,
-    out: &mut Vec<u8>,
+    out: &mut Text,
     file: &mut VmFile<D>,
     side: Side,
 ) -> Result<(), Fault>
@@ -93,14 +84,13 @@ fn put_directory<D: Device + Drop>(
     let count = (count(file, side) as u16).to_le_bytes();
     let listed = directory(file, side);
     let maps = bytes_of(listed.map_block, listed.map_item.0, listed.map_item.1);
-    match put(out, &count) {
+    out.put_bytes(&count);
+    match put_blocks(alloc, out, file, side) {
         Ok(()) => {}
         Err(error) => return Err(error),
     }
-    match put_blocks(alloc, out, file, side) {
-        Ok(()) => put(out, &maps),
-        Err(error) => Err(error),
-    }
+    out.put_bytes(&maps);
+    Ok(())
 }
 
 /// Writes the header of a file with areas of so many bytes.
@@ -128,17 +118,20 @@ pub(crate) fn spelled<D: Device + Drop>(
 ) -> Result<Vec<u8>, Fault>
     ensures { IsOnlyRead D.medium file.old file.new }
 {
-    let mut out = match zeros(alloc, FRONT) {
-        Ok(out) => out,
-        Err(error) => return Err(error),
-    };
-    put_header(&mut out, area);
+    let mut front = [0; FRONT];
+    put_header(&mut front, area);
+    let mut out = Text::new(alloc);
+    out.put_bytes(&front);
     match put_directory(alloc, &mut out, file, side) {
         Ok(()) => {}
         Err(error) => return Err(error),
     }
     match put_directory(alloc, &mut out, file, Side::Saved) {
-        Ok(()) => Ok(out),
-        Err(error) => Err(error),
+        Ok(()) => {}
+        Err(error) => return Err(error),
+    }
+    match out.finish() {
+        Ok(bytes) => Ok(bytes),
+        Err(_) => Err(Fault::Memory),
     }
 }

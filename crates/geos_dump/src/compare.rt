@@ -1,11 +1,11 @@
 //! Whether two files have the same pair.
 
 ghost use Rattle.std.specs.Prelude.{◌≡◌, ◌<◌, ◌+◌, length, true, IfOk, IsTrue, slice_index_or};
-ghost use Rattle.geos_dump.specs.Sides.{IsOnlyRead, no_block};
+ghost use Rattle.geos_dump.specs.Sides.{IsOnlyRead, contents_on, no_block};
 ghost use Rattle.vm_file.specs.State.{pair_of};
-ghost use Rattle.file_copies.specs.Sides.{contents_on, copied};
+ghost use Rattle.geos_dump.specs.Copies.{copied};
 
-use crate::error::Fault;
+use crate::copy_error::Fault;
 use crate::sides::{Side, count, directory, entry_at, read_block};
 use crate::spelling::zeros;
 use std::alloc::Global;

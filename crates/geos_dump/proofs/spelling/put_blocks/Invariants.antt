@@ -1,5 +1,5 @@
 use Rattle.geos_dump.specs.Sides.{IsOnlyRead}
-use Rattle.file_copies.proofs.spelling.put_blocks.Given as goal
+use Rattle.geos_dump.proofs.spelling.put_blocks.Given as goal
 
 abbrev pub invariant-loop-i : goal.invariant-loop-i
 invariant-loop-i g l = IsOnlyRead g.D.Device.medium l.fn.file l.file

@@ -1,6 +1,6 @@
 use Rattle.vm_file.specs.State.{file_of}
-use Rattle.file_copies.proofs.Sizes.{area_found, area_kept}
-use Rattle.file_copies.proofs.duplicate.made.Goals as goal
+use Rattle.geos_dump.proofs.Sizes.{area_found, area_kept}
+use Rattle.geos_dump.proofs.duplicate.made.Goals as goal
 
 pub returns-in-Ok-true-clause-size : goal.returns-in-Ok-true-clause-size
 returns-in-Ok-true-clause-size g c = λ h.

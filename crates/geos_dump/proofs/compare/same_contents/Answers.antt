@@ -1,8 +1,8 @@
 use Rattle.std.proofs.Common.{arith}
 use Rattle.vm_file.specs.State.{pair_of}
-use Rattle.file_copies.specs.Sides.{contents_on}
-use Rattle.file_copies.proofs.Equal.{contents_same}
-use Rattle.file_copies.proofs.compare.same_contents.Goals as goal
+use Rattle.geos_dump.specs.Sides.{contents_on}
+use Rattle.geos_dump.proofs.Equal.{contents_same}
+use Rattle.geos_dump.proofs.compare.same_contents.Goals as goal
 
 pub returns-clause-same : goal.returns-clause-same
 returns-clause-same g c = λ h k done.
