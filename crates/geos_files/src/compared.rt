@@ -2,8 +2,7 @@
 
 use crate::fault::FileFault;
 use crate::shown::text_of_file;
-use dump_differences::{differences, saved_part};
-use geos_dump::{Detail, DumpError};
+use geos_dump::{Detail, DumpError, differences, saved_part};
 use geos_shell::{DiffRequest, print};
 
 /// The part of a dump that is compared.

@@ -5,8 +5,7 @@ ghost use Rattle.geos_shell.specs.Limits.{IsArea};
 
 use crate::fault::FileFault;
 use crate::files::{Locked, finished, lock_to_read, opened, sized};
-use file_copies::{CopyError, Side, copy};
-use geos_dump::{DumpError, read_areas};
+use geos_dump::{CopyError, DumpError, Side, copy, read_areas};
 use geos_shell::{CopyRequest, FileLock, NewFile};
 use std::fs::File;
 use vm_file::{CreateError, FileDevice, VmFile};
