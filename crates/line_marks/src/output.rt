@@ -1,28 +1,27 @@
 //! A text that is written line by line.
 
+use sentence_text::Text;
 use std::alloc::{AllocError, Global};
 
-/// A text under construction. After an allocation was refused, nothing more is written, and `finish` reports it.
+/// A text under construction.
 #[derive(Drop)]
 pub(crate) struct Output {
-    bytes: Vec<u8>,
+    text: Text,
     /// The bytes of the line that is written now.
     width: usize,
-    is_cut: bool,
 }
 
 impl Output {
     pub(crate) fn new(alloc: Global) -> Output {
         Output {
-            bytes: Vec::new(alloc),
+            text: Text::new(alloc),
             width: 0,
-            is_cut: false,
         }
     }
 
     /// Writes bytes of one line.
     pub(crate) fn put(&mut self, bytes: &[u8]) {
-        self.is_cut = self.is_cut || self.bytes.extend_from_slice(bytes).is_err();
+        self.text.put_bytes(bytes);
         self.width = self.width.saturating_add(bytes.len());
     }
 
@@ -39,17 +38,13 @@ impl Output {
 
     /// Ends the line with LF, or with CR LF if its last byte is a CR, since a reader removes the CR before an LF.
     pub(crate) fn end_line(&mut self) {
-        let ends_with_cr = self.width > 0 && self.bytes.ends_with(b"\r");
+        let ends_with_cr = self.width > 0 && self.text.bytes.ends_with(b"\r");
         self.put(if ends_with_cr { b"\r\n" } else { b"\n" });
         self.width = 0;
     }
 
-    /// The text.
+    /// The text. An error says that an allocation was refused.
     pub(crate) fn finish(self) -> Result<Vec<u8>, AllocError> {
-        if self.is_cut {
-            Err(AllocError)
-        } else {
-            Ok(self.bytes)
-        }
+        self.text.finish()
     }
 }

@@ -1,8 +1,8 @@
 //! The columns of a line.
 
+use crate::mark::is_mark;
 use crate::output::Output;
 use geos_text::{first_line, is_blank, without_comment};
-use line_marks::is_mark;
 use std::alloc::{AllocError, Global};
 
 /// Where instructions begin, in bytes from the start of a line; and how far a tab goes.
