@@ -7,16 +7,16 @@
 //!   *NAME           words that it may be given, any number of them
 //!   +NAME           words that it requires, one or more of them
 //!   --name          a flag
+//!   --name=*        a flag of all commands
 //!   --name=WORD     a word after a name
 //!   --name=N:10     a number after a name, and its default
 //! A table of structs costs much more to prove, since a proof goes over each byte of a table's texts.
 
-/// The flag that every command may be given, and the program without one.
-pub(crate) const DIAGNOSTICS: &str =
-    "--diagnostics Adds lines `FILE:LINE: error: ..`, `warning: ..` or `note: ..` on standard error, as on a terminal";
-
-/// The flag that keeps warnings from being added.
-pub(crate) const NO_WARNINGS: &str = "--no-warnings Leaves warnings out of what --diagnostics adds";
+/// The program without its commands, and the flags that each of them may be given.
+pub(crate) const PROGRAM: &str = "\
+geos Checks routines, which are written as text, and runs them. Explains texts and images, runs scripts on VM files, and shows what such a file has.
+--diagnostics=* Adds lines `FILE:LINE: error: ..`, `warning: ..` or `note: ..` on standard error, as on a terminal
+--no-warnings=* Leaves warnings out of what --diagnostics adds";
 
 /// The commands, in the order in which the help lists them, with a blank line after each but the last.
 pub(crate) const COMMANDS: &str = "\
@@ -29,6 +29,7 @@ IN A file of assembly text, at most 1,048,576 bytes, or of an image's bytes; `-`
 --save Commits at the end, as the command `save` of a script does
 --grant=EFFECTS What public routines may do, as output,changes-lent; without it, all
 --most-steps=N:4294967295 The highest budget that a routine may have that can be called, 0 to 4294967295
+--most-bytes=N:4294967295 How many bytes blocks in memory may have, 0 to 4294967295; more is refused 4
 --region=N:1048576 How many bytes of memory the blocks have, 65536 to 16777216
 --strict Ends with status 1 at the first line of the script that prints `refused K`
 --hex Prints words as 0x and four hexadecimal digits
@@ -44,6 +45,7 @@ NAME The public routine that runs
 --file=FILE The VM file that it works on, as `new` makes it; without it, one in memory
 --grant=EFFECTS What public routines may do, as output,changes-lent; without it, all
 --most-steps=N:4294967295 The highest budget that the routine may have, 0 to 4294967295
+--most-bytes=N:4294967295 How many bytes blocks in memory may have, 0 to 4294967295; more is refused 4
 --region=N:1048576 How many bytes of memory the blocks have, 65536 to 16777216
 --steps=N:10000 How many steps are printed at most, 0 to 1000000
 --only=ROUTINE The routine whose steps are printed
@@ -102,6 +104,7 @@ FILE A VM file, as `new` makes it
 SCRIPT A file of commands, at most 1,048,576 bytes; `-` is the standard input
 --grant=EFFECTS What public routines may do, as output,changes-lent; without it, all
 --most-steps=N:4294967295 The highest budget that a routine may have that can be called, 0 to 4294967295
+--most-bytes=N:4294967295 How many bytes blocks in memory may have, 0 to 4294967295; more is refused 4
 --region=N:1048576 How many bytes of memory the blocks have, 65536 to 16777216
 --strict Ends with status 1 at the first line of SCRIPT that prints `refused K`
 --vars Lets lines keep words under names, as `call make -> h`, and use them, as `call use $h 5`
@@ -139,4 +142,6 @@ B Another VM file
 
 map Draws a VM file: how full its areas and blocks are
 FILE A VM file, as `new` makes it
---width=N:80 How many columns a line has, 60 to 1000";
+--width=N:80 How many columns a line has, 60 to 1000
+
+lsp Shows an editor what `explain` finds, by the Language Server Protocol on the standard streams";

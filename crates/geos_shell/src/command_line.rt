@@ -1,8 +1,8 @@
 //! The command line, as `clap` takes it.
 
 use crate::answer::Answer;
-use crate::arguments::{COMMANDS, DIAGNOSTICS, NO_WARNINGS};
-use crate::help::{ABOUT, END_OF_NOTE, NOTES, SESSION, USAGES};
+use crate::arguments::{COMMANDS, PROGRAM};
+use crate::help::{END_OF_NOTE, NOTES, SESSION, USAGES};
 use clap::{Arg, ArgAction, ArgMatches, Command, Error};
 use std::alloc::{AllocError, Global};
 use std::{env, io};
@@ -33,7 +33,9 @@ fn option_of<'a>(alloc: Global, option: &'a str) -> Arg<'a> {
     let (name, value) = parts_of(option, '=');
     let (word, default) = parts_of(value, ':');
     let arg = Arg::new(alloc, name).long(name);
-    if word.is_empty() {
+    if word == "*" {
+        arg.action(ArgAction::SetTrue).global(true)
+    } else if word.is_empty() {
         arg.action(ArgAction::SetTrue)
     } else if default.is_empty() {
         arg.value_name(word)
@@ -70,16 +72,15 @@ fn args_of<'a>(alloc: Global, lines: &'a str) -> Result<Vec<Arg<'a>>, AllocError
     Ok(args)
 }
 
-/// A command with what it says of itself.
-fn described<'a>(command: Command<'a>, about: &'a str, more: &'a str) -> Command<'a> {
-    command.about(about).after_help(more)
-}
-
 /// The command of a text of `arguments`, and what there is to add.
 fn command_of<'a>(alloc: Global, text: &'a str, more: &'a str) -> Result<Command<'a>, AllocError> {
     let (first, lines) = parts_of(text, '\n');
     let (name, about) = parts_of(first, ' ');
-    described(Command::new(alloc, name), about, more).args(args_of(alloc, lines)?)
+    let args = args_of(alloc, lines)?;
+    Command::new(alloc, name)
+        .about(about)
+        .after_help(more)
+        .args(args)
 }
 
 /// All commands.
@@ -93,22 +94,14 @@ fn commands<'a>(alloc: Global) -> Result<Vec<Command<'a>>, AllocError> {
     Ok(commands)
 }
 
-/// The program without its commands.
-fn bare_program<'a>(alloc: Global) -> Command<'a> {
-    let program = Command::new(alloc, "geos")
-        .no_binary_name(true)
-        .version("0.1.0")
-        .override_usage(USAGES);
-    described(program, ABOUT, SESSION)
-}
-
 /// The program with its commands.
 fn program<'a>(alloc: Global) -> Result<Command<'a>, AllocError> {
     let commands = commands(alloc)?;
-    bare_program(alloc)
+    command_of(alloc, PROGRAM, SESSION)?
+        .no_binary_name(true)
+        .version("0.1.0")
+        .override_usage(USAGES)
         .bin_name("geos")?
-        .arg(arg_of(alloc, DIAGNOSTICS).global(true))?
-        .arg(arg_of(alloc, NO_WARNINGS).global(true))?
         .subcommands(commands)
 }
 

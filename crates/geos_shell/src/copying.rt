@@ -1,11 +1,11 @@
 //! The request of a `copy`.
 
 ghost use Rattle.std.specs.Prelude.{IfSome};
-ghost use Rattle.geos_shell.specs.Limits.{IsArea, WorksWithinLimits};
+ghost use Rattle.geos_shell.specs.Limits.{IsArea, KeepsLimits};
 
 use crate::given::Given;
 use crate::numbers::AREA;
-use crate::request::FileRequest;
+use crate::request::{FileRequest, Request};
 
 /// To copy a VM file to a new one.
 #[derive(Clone, Copy)]
@@ -21,7 +21,7 @@ pub struct CopyRequest<'a> {
 }
 
 /// The size of an area, if one is given.
-fn area_of(given: &mut Given<'_, '_>) -> Option<u32>
+fn area_of(given: &Given<'_, '_>) -> Option<u32>
     ensures { IfSome result IsArea }
 {
     match given.setting("area") {
@@ -30,14 +30,14 @@ fn area_of(given: &mut Given<'_, '_>) -> Option<u32>
     }
 }
 
-/// The request of a `copy`. A wrong number is reported first.
-pub(crate) fn copy_of<'a>(given: &mut Given<'_, 'a>) -> FileRequest<'a>
-    ensures { WorksWithinLimits result }
+/// The request of a `copy`.
+pub(crate) fn copy_of<'a>(given: &Given<'_, 'a>) -> Request<'a>
+    ensures { KeepsLimits result }
 {
-    FileRequest::Copy(CopyRequest {
+    Request::File(FileRequest::Copy(CopyRequest {
         area: area_of(given),
         file: given.word("FILE"),
         new: given.word("NEW"),
         saved: given.flag("saved"),
-    })
+    }))
 }

@@ -1,9 +1,9 @@
 //! The request of a `diff`.
 
-ghost use Rattle.geos_shell.specs.Limits.{WorksWithinLimits};
+ghost use Rattle.geos_shell.specs.Limits.{KeepsLimits};
 
 use crate::given::Given;
-use crate::request::FileRequest;
+use crate::request::{FileRequest, Request};
 
 /// To print what differs between two VM files.
 #[derive(Clone, Copy)]
@@ -16,12 +16,12 @@ pub struct DiffRequest<'a> {
 }
 
 /// The request of a `diff`.
-pub(crate) fn diff_of<'a>(given: &Given<'_, 'a>) -> FileRequest<'a>
-    ensures { WorksWithinLimits result }
+pub(crate) fn diff_of<'a>(given: &Given<'_, 'a>) -> Request<'a>
+    ensures { KeepsLimits result }
 {
-    FileRequest::Diff(DiffRequest {
+    Request::File(FileRequest::Diff(DiffRequest {
         one: given.word("A"),
         other: given.word("B"),
         saved: given.flag("saved"),
-    })
+    }))
 }

@@ -145,6 +145,7 @@ impl Request<'_> {
             Request::Test(request) => request.has_faults(rt),
             Request::Text(request) => request.has_faults(rt),
             Request::File(request) => request.has_faults(rt),
+            Request::Serve => false,
         }
     }
 }

@@ -1,7 +1,6 @@
 //! How outputs are written, and what is committed at the end.
 
 use crate::given::Given;
-use crate::misuse::{TWO_COMMITS, TWO_WRITINGS};
 
 /// How an output word is written.
 #[derive(Clone, Copy)]
@@ -25,17 +24,13 @@ pub struct OutputForm {
 }
 
 impl OutputForm {
-    /// The requested form: a word is written in only one way.
-    pub(crate) fn of(given: &mut Given<'_, '_>) -> OutputForm {
-        let hex = given.flag("hex");
-        let signed = given.flag("signed");
-        let text = given.flag("text");
-        given.refuse_if(hex && (signed || text) || signed && text, TWO_WRITINGS);
-        let digits = if hex {
+    /// The requested form.
+    pub(crate) fn of(given: &Given<'_, '_>) -> OutputForm {
+        let digits = if given.flag("hex") {
             Digits::Hex
-        } else if signed {
+        } else if given.flag("signed") {
             Digits::Signed
-        } else if text {
+        } else if given.flag("text") {
             Digits::Text
         } else {
             Digits::Decimal
@@ -63,13 +58,10 @@ pub enum EndCommit {
 
 impl EndCommit {
     /// The requested commit, if there is one.
-    pub(crate) fn of(given: &mut Given<'_, '_>) -> Option<EndCommit> {
-        let update = given.flag("update");
-        let save = given.flag("save");
-        given.refuse_if(update && save, TWO_COMMITS);
-        if update {
+    pub(crate) fn of(given: &Given<'_, '_>) -> Option<EndCommit> {
+        if given.flag("update") {
             Some(EndCommit::Update)
-        } else if save {
+        } else if given.flag("save") {
             Some(EndCommit::Save)
         } else {
             None

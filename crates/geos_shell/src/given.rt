@@ -3,36 +3,29 @@
 ghost use Rattle.std.specs.Prelude.{◌≢◌};
 ghost use Rattle.geos_shell.specs.Limits.{IsWithin};
 
-use crate::misuse::Misuse;
 use crate::numbers::{Number, number_in};
+use crate::streams::is_stream;
 use clap::ArgMatches;
-use std::alloc::Global;
+use clap::parser::ValueSource;
+use std::alloc::{AllocError, Global};
 
-/// The words after a command's name. It stores the first misuse, which the reader of the words checks at the end.
+/// The words after a command's name. A command has nothing under a name that is none of its arguments.
 #[derive(Drop)]
 pub(crate) struct Given<'m, 'a> {
     words: &'m ArgMatches<'a>,
-    misuse: Option<Misuse>,
 }
 
 impl<'m, 'a> Given<'m, 'a> {
     pub(crate) fn new(words: &'m ArgMatches<'a>) -> Given<'m, 'a> {
-        Given {
-            words,
-            misuse: None,
-        }
+        Given { words }
     }
 
-    /// What is wrong with the words that were read, the first that was found.
-    pub(crate) fn misuse(&self) -> Option<Misuse> {
-        self.misuse
-    }
-
-    /// Stores a misuse if `is_wrong`, unless there was one before.
-    pub(crate) fn refuse_if(&mut self, is_wrong: bool, misuse: Misuse) {
-        if is_wrong && self.misuse.is_none() {
-            self.misuse = Some(misuse);
-        }
+    /// Whether words are given under the name, and not only a default.
+    pub(crate) fn has(&self, name: &str) -> bool {
+        matches!(
+            self.words.value_source(name),
+            Some(ValueSource::CommandLine)
+        )
     }
 
     /// A word that the command requires, so it exists.
@@ -50,42 +43,43 @@ impl<'m, 'a> Given<'m, 'a> {
     }
 
     /// The words that are given for a name, if there are any.
-    pub(crate) fn words(&mut self, alloc: Global, name: &str) -> Vec<&'a str> {
-        let Some(given) = self.words.get_strs(name) else {
-            return Vec::new(alloc);
-        };
-        match Vec::from_slice(alloc, given) {
-            Ok(words) => words,
-            Err(_) => {
-                self.refuse_if(true, Misuse::Memory);
-                Vec::new(alloc)
-            }
+    pub(crate) fn words(&self, alloc: Global, name: &str) -> Result<Vec<&'a str>, AllocError> {
+        match self.words.get_strs(name) {
+            Some(given) => Vec::from_slice(alloc, given),
+            None => Ok(Vec::new(alloc)),
         }
     }
 
-    /// The number that is given, or the least one if what is given is wrong.
-    pub(crate) fn number(&mut self, number: &Number) -> u32
+    /// How many of the words that are given for a name are the standard input.
+    pub(crate) fn streams(&self, name: &str) -> usize {
+        let mut count: usize = 0;
+        for word in self.words.get_strs(name).unwrap_or(&[]) {
+            if is_stream(word) {
+                count = count.saturating_add(1);
+            }
+        }
+        count
+    }
+
+    /// Whether the words under two names are one path of a file. The second one may be left out.
+    pub(crate) fn has_path_twice(&self, name: &str, other: &str) -> bool {
+        matches!(self.setting(other), Some(path) if path == self.word(name) && !is_stream(path))
+    }
+
+    /// The number that is given, or the greatest one if there is none.
+    pub(crate) fn number(&self, number: &Number) -> u32
         requires unit { number.now.unit ≢ 0 }
-        requires least { IsWithin number.now number.now.least }
+        requires most { IsWithin number.now number.now.most }
         ensures { IsWithin number.now result }
     {
         match number_in(self.word(number.name)) {
             Some(n) if number.least <= n && n <= number.most && n % number.unit == 0 => n,
-            _ => {
-                self.refuse_if(true, number.misuse);
-                number.least
-            }
+            _ => number.most,
         }
     }
 
-    /// The number of 16 bits that a word is, or 0 if it is none.
-    pub(crate) fn short(&mut self, name: &str, misuse: Misuse) -> u16 {
-        match number_in(self.word(name)) {
-            Some(n) if n <= 65_535 => n as u16,
-            _ => {
-                self.refuse_if(true, misuse);
-                0
-            }
-        }
+    /// The number of 16 bits that is given, or the greatest one if there is none.
+    pub(crate) fn short(&self, name: &str) -> u16 {
+        self.word(name).parse().unwrap_or(u16::MAX)
     }
 }

@@ -1,11 +1,8 @@
 //! What the program says of itself and of its commands.
 
-pub(crate) const ABOUT: &str = "Checks routines, which are written as text, and runs them. \
-     Explains texts and images, runs scripts on VM files, and shows what such a file has.";
-
 pub(crate) const USAGES: &str = "\
-geos call IN [NAME [N..]] [--file FILE [--update | --save]] [--grant EFFECTS] [--most-steps N] [--region N] [--strict] [FORM | --json]
-       geos trace IN NAME [N..] [--steps N] [--only ROUTINE | --count | --html OUT] [--file FILE] [--grant EFFECTS] [--most-steps N] [--region N] [--json]
+geos call IN [NAME [N..]] [--file FILE [--update | --save]] [--grant EFFECTS] [--most-steps N] [--most-bytes N] [--region N] [--strict] [FORM | --json]
+       geos trace IN NAME [N..] [--steps N] [--only ROUTINE | --count | --html OUT] [--file FILE] [--grant EFFECTS] [--most-steps N] [--most-bytes N] [--region N] [--json]
        geos test IN SCRIPT.. [--file FILE] [--region N]
        geos asm IN OUT [--all-rows] [--json]
        geos budget TEXT [OUT | --in-place]
@@ -15,12 +12,13 @@ geos call IN [NAME [N..]] [--file FILE [--update | --save]] [--grant EFFECTS] [-
        geos explain IMAGE [--script SCRIPT [--vars] | --json]
        geos new FILE [--area N]
        geos copy FILE NEW [--area N] [--saved]
-       geos run IMAGE FILE SCRIPT [--grant EFFECTS] [--most-steps N] [--region N] [--strict] [--vars] [--update | --save] [FORM]
+       geos run IMAGE FILE SCRIPT [--grant EFFECTS] [--most-steps N] [--most-bytes N] [--region N] [--strict] [--vars] [--update | --save] [FORM]
        geos put FILE H C [AT] [--item] [--region N]
        geos get FILE H C [--item] [--region N]
        geos dump FILE [--chunks] [--json]
        geos diff A B [--saved]
        geos map FILE [--width N]
+       geos lsp
        geos < SESSION
        geos help [COMMAND | TOPIC]";
 
@@ -300,4 +298,9 @@ Example:
 The first bar is the area that is read, with all blocks as they are and as they were saved last. Below it,
 each block has a bar whose length is to the longest bar as the block is to the longest block: `#` is in
 use, `.` is free. `used` counts bytes, also those of the heap's header and table. A group has `group` in
-place of its user ID.";
+place of its user ID.
+====
+An editor starts it, and asks it about the texts and sources that are open: faults, refusals and warnings as
+one types, edits that mend them, what is known at an instruction, definitions and uses of names, other names
+for them, an outline, and columns. It reads and writes no file. docs/EDITORS.md shows how Vim, Neovim, Helix,
+Emacs and VS Code start it.";

@@ -28,6 +28,7 @@ mod reason;
 mod replace;
 mod reported;
 mod request;
+mod rules;
 mod run_limits;
 mod streams;
 

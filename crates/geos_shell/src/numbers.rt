@@ -1,17 +1,14 @@
 //! The numbers that commands may be given.
 
-use crate::misuse::{Misuse, WRONG_AREA, WRONG_MOST_STEPS, WRONG_REGION, WRONG_STEPS, WRONG_WIDTH};
-
-/// A number after `--name`, and its limits. The table of commands describes it.
+/// A number that a command may be given, and its limits. The table of commands describes it.
 #[derive(Clone, Copy)]
 pub(crate) struct Number {
+    /// What `arguments` calls it.
     pub(crate) name: &'static str,
     pub(crate) least: u32,
     pub(crate) most: u32,
     /// It is a multiple of this.
     pub(crate) unit: u32,
-    /// What is wrong with any other.
-    pub(crate) misuse: Misuse,
 }
 
 /// The bytes of an area of a VM file.
@@ -20,7 +17,6 @@ pub(crate) const AREA: Number = Number {
     least: 512,
     most: 16_777_216,
     unit: 512,
-    misuse: WRONG_AREA,
 };
 
 /// The bytes of the region that blocks in memory lie in.
@@ -29,7 +25,6 @@ pub(crate) const REGION: Number = Number {
     least: 65_536,
     most: 16_777_216,
     unit: 1,
-    misuse: WRONG_REGION,
 };
 
 /// The steps that are printed of a run.
@@ -38,7 +33,6 @@ pub(crate) const STEPS: Number = Number {
     least: 0,
     most: 1_000_000,
     unit: 1,
-    misuse: WRONG_STEPS,
 };
 
 /// The highest budget of routines that are run.
@@ -47,7 +41,14 @@ pub(crate) const MOST_STEPS: Number = Number {
     least: 0,
     most: 4_294_967_295,
     unit: 1,
-    misuse: WRONG_MOST_STEPS,
+};
+
+/// The bytes that blocks in memory may have.
+pub(crate) const MOST_BYTES: Number = Number {
+    name: "most-bytes",
+    least: 0,
+    most: 4_294_967_295,
+    unit: 1,
 };
 
 /// The columns of a drawing.
@@ -56,7 +57,6 @@ pub(crate) const WIDTH: Number = Number {
     least: 60,
     most: 1_000,
     unit: 1,
-    misuse: WRONG_WIDTH,
 };
 
 /// The number of a text of digits only, if it has 32 bits.

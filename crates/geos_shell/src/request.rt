@@ -1,24 +1,21 @@
 //! The request that the words on the command line make.
 
 ghost use Rattle.std.specs.Prelude.{IfOk};
-ghost use Rattle.geos_shell.specs.Limits.{IsRegion, KeepsLimits, RunsWithinLimits, WorksWithinLimits};
+ghost use Rattle.geos_shell.specs.Limits.{KeepsLimits};
 
 use crate::answer::{Answer, answer_to};
-use crate::command_line::{matches_of, parts_of};
+use crate::command_line::matches_of;
 use crate::copying::{CopyRequest, copy_of};
 use crate::diffing::{DiffRequest, diff_of};
 use crate::forms::{EndCommit, OutputForm};
 use crate::given::Given;
-use crate::misuse::{
-    JSON_OR_DIAGNOSTICS, JSON_OR_FORM, JSON_OR_OUTPUT, JSON_OR_PAGE, JSON_OR_SCRIPT, Misuse,
-    NAMES_OF_NO_SCRIPT, NO_CHUNK, NO_FILE, NO_HANDLE, NO_NAME, NO_OFFSET, NOT_IN_PLACE, ONTO_IN,
-    ONTO_TEXT, PAGE_OF_PART, TWO_OF_ONE_STREAM, TWO_TESTED_STREAMS,
-};
+use crate::misuse::misuse;
 use crate::numbers::{AREA, REGION, STEPS, WIDTH};
+use crate::rules::misuse_of;
 use crate::run_limits::RunLimits;
-use crate::streams::{STANDARD, is_stream};
+use crate::streams::STANDARD;
 use clap::ArgMatches;
-use std::alloc::Global;
+use std::alloc::{AllocError, Global};
 use std::io::IsTerminal;
 
 /// A call of the routine with the name, on these numbers, and on the blocks after them.
@@ -187,6 +184,8 @@ pub enum Request<'a> {
     Text(TextRequest<'a>),
     /// To work on a VM file.
     File(FileRequest<'a>),
+    /// To serve an editor by the Language Server Protocol, on the standard streams.
+    Serve,
 }
 
 /// A request, and what is reported on standard error beside its faults.
@@ -227,54 +226,49 @@ impl Asked<'_> {
 }
 
 /// The requested call, if a routine is named.
-fn call_words<'a>(alloc: Global, given: &mut Given<'_, 'a>) -> Option<CallWords<'a>> {
+fn call_words<'a>(
+    alloc: Global,
+    given: &Given<'_, 'a>,
+) -> Result<Option<CallWords<'a>>, AllocError> {
     match given.setting("NAME") {
-        Some(name) => Some(CallWords {
+        Some(name) => Ok(Some(CallWords {
             name,
-            words: given.words(alloc, "N"),
-        }),
-        None => None,
+            words: given.words(alloc, "N")?,
+        })),
+        None => Ok(None),
     }
 }
 
-/// The request of a `call`. A wrong number is reported first.
-fn call_of<'a>(alloc: Global, given: &mut Given<'_, 'a>) -> RoutineRequest<'a>
-    ensures { RunsWithinLimits result }
+/// The request of a `call`.
+fn call_of<'a>(alloc: Global, given: &Given<'_, 'a>) -> Result<Request<'a>, AllocError>
+    ensures { IfOk result KeepsLimits }
 {
-    let region = given.number(&REGION);
-    let image = given.word("IN");
-    let call = call_words(alloc, given);
-    given.refuse_if(call.is_none() && is_stream(image), NO_NAME);
-    let file = given.setting("file");
-    let commit = EndCommit::of(given);
-    given.refuse_if(commit.is_some() && file.is_none(), NO_FILE);
-    RoutineRequest::Call {
-        image,
+    let call = call_words(alloc, given)?;
+    Ok(Request::Routines(RoutineRequest::Call {
+        image: given.word("IN"),
         call,
-        file,
-        region,
+        file: given.setting("file"),
+        region: given.number(&REGION),
         strict: given.flag("strict"),
         form: OutputForm::of(given),
-        commit,
-    }
+        commit: EndCommit::of(given),
+    }))
 }
 
-/// The request of a `trace`. A wrong number is reported first.
-fn trace_of<'a>(alloc: Global, given: &mut Given<'_, 'a>) -> RoutineRequest<'a>
-    ensures { RunsWithinLimits result }
+/// The request of a `trace`.
+fn trace_of<'a>(alloc: Global, given: &Given<'_, 'a>) -> Result<Request<'a>, AllocError>
+    ensures { IfOk result KeepsLimits }
 {
-    let region = given.number(&REGION);
-    let steps = given.number(&STEPS);
+    let (image, file) = (given.word("IN"), given.setting("file"));
+    let (only, page) = (given.setting("only"), given.setting("html"));
+    let (steps, region) = (given.number(&STEPS), given.number(&REGION));
+    let count = given.flag("count");
     let call = CallWords {
         name: given.word("NAME"),
-        words: given.words(alloc, "N"),
+        words: given.words(alloc, "N")?,
     };
-    let only = given.setting("only");
-    let count = given.flag("count");
-    let page = given.setting("html");
-    given.refuse_if(page.is_some() && (count || only.is_some()), PAGE_OF_PART);
-    RoutineRequest::Trace {
-        image: given.word("IN"),
+    Ok(Request::Routines(RoutineRequest::Trace {
+        image,
         words: TraceWords {
             call,
             only,
@@ -282,242 +276,207 @@ fn trace_of<'a>(alloc: Global, given: &mut Given<'_, 'a>) -> RoutineRequest<'a>
             count,
             page,
         },
-        file: given.setting("file"),
+        file,
         region,
-    }
+    }))
 }
 
-/// The request of a `test`. A wrong number is reported first.
-fn test_of<'a>(alloc: Global, given: &mut Given<'_, 'a>) -> TestRequest<'a>
-    ensures { IsRegion result.region }
+/// The request of a `test`.
+fn test_of<'a>(alloc: Global, given: &Given<'_, 'a>) -> Result<Request<'a>, AllocError>
+    ensures { IfOk result KeepsLimits }
 {
-    let region = given.number(&REGION);
-    let image = given.word("IN");
-    let scripts = given.words(alloc, "SCRIPT");
-    let mut is_read = is_stream(image);
-    for script in &scripts {
-        let is_of_stream = is_stream(script);
-        given.refuse_if(is_read && is_of_stream, TWO_TESTED_STREAMS);
-        is_read = is_read || is_of_stream;
-    }
-    TestRequest {
-        image,
-        scripts,
+    Ok(Request::Test(TestRequest {
+        image: given.word("IN"),
         file: given.setting("file"),
-        region,
-    }
+        region: given.number(&REGION),
+        scripts: given.words(alloc, "SCRIPT")?,
+    }))
 }
 
-/// The request of an `asm`. The image of a text may not replace the text.
-fn asm_of<'a>(given: &mut Given<'_, 'a>) -> TextRequest<'a> {
-    let text = given.word("IN");
-    let image = given.word("OUT");
-    given.refuse_if(text == image && !is_stream(text), ONTO_IN);
-    TextRequest::Assemble {
-        text,
-        image,
+/// The request of an `asm`.
+fn asm_of<'a>(given: &Given<'_, 'a>) -> Request<'a>
+    ensures { KeepsLimits result }
+{
+    Request::Text(TextRequest::Assemble {
+        text: given.word("IN"),
+        image: given.word("OUT"),
         all_rows: given.flag("all-rows"),
-    }
+    })
 }
 
 /// The request of a `new`.
-fn new_of<'a>(given: &mut Given<'_, 'a>) -> FileRequest<'a>
-    ensures { WorksWithinLimits result }
+fn new_of<'a>(given: &Given<'_, 'a>) -> Request<'a>
+    ensures { KeepsLimits result }
 {
-    FileRequest::New {
+    Request::File(FileRequest::New {
         area: given.number(&AREA),
         file: given.word("FILE"),
-    }
+    })
 }
 
-/// The request of a `run`. A wrong number is reported first.
-fn run_of<'a>(given: &mut Given<'_, 'a>) -> RoutineRequest<'a>
-    ensures { RunsWithinLimits result }
+/// The request of a `run`.
+fn run_of<'a>(given: &Given<'_, 'a>) -> Request<'a>
+    ensures { KeepsLimits result }
 {
-    let region = given.number(&REGION);
-    let image = given.word("IMAGE");
-    let script = given.word("SCRIPT");
-    given.refuse_if(is_stream(image) && is_stream(script), TWO_OF_ONE_STREAM);
-    RoutineRequest::Run {
-        image,
+    Request::Routines(RoutineRequest::Run {
+        image: given.word("IMAGE"),
         file: given.word("FILE"),
-        script,
-        region,
+        script: given.word("SCRIPT"),
+        region: given.number(&REGION),
         strict: given.flag("strict"),
         names: given.flag("vars"),
         form: OutputForm::of(given),
         commit: EndCommit::of(given),
-    }
+    })
 }
 
 /// The request of an `explain`.
-fn explain_of<'a>(given: &mut Given<'_, 'a>) -> TextRequest<'a> {
+fn explain_of<'a>(given: &Given<'_, 'a>) -> Request<'a>
+    ensures { KeepsLimits result }
+{
     let image = given.word("IMAGE");
-    let names = given.flag("vars");
-    match given.setting("script") {
-        None => {
-            given.refuse_if(names, NAMES_OF_NO_SCRIPT);
-            TextRequest::Explain(image)
-        }
-        Some(script) => {
-            given.refuse_if(is_stream(image) && is_stream(script), TWO_OF_ONE_STREAM);
-            TextRequest::ExplainScript {
-                image,
-                script,
-                names,
-            }
-        }
-    }
+    Request::Text(match given.setting("script") {
+        Some(script) => TextRequest::ExplainScript {
+            image,
+            script,
+            names: given.flag("vars"),
+        },
+        None => TextRequest::Explain(image),
+    })
 }
 
 /// The chunk that a `put` or a `get` names.
-fn chunk_of<'a>(given: &mut Given<'_, 'a>) -> ChunkPath<'a> {
+fn chunk_of<'a>(given: &Given<'_, 'a>) -> ChunkPath<'a> {
     ChunkPath {
         file: given.word("FILE"),
-        handle: given.short("H", NO_HANDLE),
-        chunk: given.short("C", NO_CHUNK),
+        handle: given.short("H"),
+        chunk: given.short("C"),
         item: given.flag("item"),
     }
 }
 
-/// The request of a `put`. A wrong number is reported first.
-fn put_of<'a>(given: &mut Given<'_, 'a>) -> FileRequest<'a>
-    ensures { WorksWithinLimits result }
+/// The request of a `put`.
+fn put_of<'a>(given: &Given<'_, 'a>) -> Request<'a>
+    ensures { KeepsLimits result }
 {
-    let region = given.number(&REGION);
-    let chunk = chunk_of(given);
-    let at = match given.setting("AT") {
-        Some(_) => Some(given.short("AT", NO_OFFSET)),
-        None => None,
+    let at = if given.has("AT") {
+        Some(given.short("AT"))
+    } else {
+        None
     };
-    FileRequest::Put { chunk, at, region }
+    Request::File(FileRequest::Put {
+        chunk: chunk_of(given),
+        at,
+        region: given.number(&REGION),
+    })
 }
 
-/// The request of a `get`. A wrong number is reported first.
-fn get_of<'a>(given: &mut Given<'_, 'a>) -> FileRequest<'a>
-    ensures { WorksWithinLimits result }
+/// The request of a `get`.
+fn get_of<'a>(given: &Given<'_, 'a>) -> Request<'a>
+    ensures { KeepsLimits result }
 {
-    let region = given.number(&REGION);
-    FileRequest::Get {
+    Request::File(FileRequest::Get {
         chunk: chunk_of(given),
-        region,
-    }
+        region: given.number(&REGION),
+    })
 }
 
 /// The request of a `map`.
-fn map_of<'a>(given: &mut Given<'_, 'a>) -> FileRequest<'a>
-    ensures { WorksWithinLimits result }
+fn map_of<'a>(given: &Given<'_, 'a>) -> Request<'a>
+    ensures { KeepsLimits result }
 {
-    FileRequest::Map {
+    Request::File(FileRequest::Map {
         file: given.word("FILE"),
         width: given.number(&WIDTH),
-    }
+    })
 }
 
-/// The output of a `budget` or a `fmt`. It replaces the text only if that is requested.
-fn new_text_of<'a>(given: &mut Given<'_, 'a>) -> NewText<'a> {
+/// The request of a `dump`.
+fn dump_of<'a>(given: &Given<'_, 'a>) -> Request<'a>
+    ensures { KeepsLimits result }
+{
+    Request::File(FileRequest::Dump {
+        file: given.word("FILE"),
+        chunks: given.flag("chunks"),
+    })
+}
+
+/// The paths of a `budget` or a `fmt`.
+fn new_text_of<'a>(given: &Given<'_, 'a>) -> NewText<'a> {
     let text = given.word("TEXT");
-    let out = given.setting("OUT");
     let in_place = given.flag("in-place");
-    let is_of_stream = is_stream(text);
-    given.refuse_if(in_place && (is_of_stream || out.is_some()), NOT_IN_PLACE);
-    let new = if in_place {
-        text
-    } else {
-        out.unwrap_or(STANDARD)
-    };
-    given.refuse_if(text == new && !in_place && !is_of_stream, ONTO_TEXT);
     NewText {
         text,
-        new,
+        new: if in_place {
+            text
+        } else {
+            given.setting("OUT").unwrap_or(STANDARD)
+        },
         in_place,
     }
 }
 
-/// The request of a `dump`.
-fn dump_of<'a>(given: &Given<'_, 'a>) -> FileRequest<'a>
-    ensures { WorksWithinLimits result }
+/// The request of the words after the name of a command that takes a fixed number of words, or of no command.
+fn plain_request<'a>(name: &str, given: &Given<'_, 'a>) -> Request<'a>
+    ensures { KeepsLimits result }
 {
-    FileRequest::Dump {
-        file: given.word("FILE"),
-        chunks: given.flag("chunks"),
+    match name {
+        "asm" => asm_of(given),
+        "budget" => Request::Text(TextRequest::Budget(new_text_of(given))),
+        "fmt" => Request::Text(TextRequest::Format(new_text_of(given))),
+        "list" => Request::Text(TextRequest::List(given.word("IMAGE"))),
+        "check" => Request::Text(TextRequest::Check(given.word("IMAGE"))),
+        "explain" => explain_of(given),
+        "new" => new_of(given),
+        "copy" => copy_of(given),
+        "run" => run_of(given),
+        "put" => put_of(given),
+        "get" => get_of(given),
+        "dump" => dump_of(given),
+        "diff" => diff_of(given),
+        "map" => map_of(given),
+        "lsp" => Request::Serve,
+        _ => Request::Routines(RoutineRequest::Session),
     }
 }
 
 /// The request of the words after the name of a command.
-fn command_request<'a>(alloc: Global, name: &str, given: &mut Given<'_, 'a>) -> Request<'a>
-    ensures { KeepsLimits result }
+fn command_request<'a>(
+    alloc: Global,
+    name: &str,
+    given: &Given<'_, 'a>,
+) -> Result<Request<'a>, AllocError>
+    ensures { IfOk result KeepsLimits }
 {
     match name {
-        "call" => Request::Routines(call_of(alloc, given)),
-        "trace" => Request::Routines(trace_of(alloc, given)),
-        "run" => Request::Routines(run_of(given)),
-        "test" => Request::Test(test_of(alloc, given)),
-        "asm" => Request::Text(asm_of(given)),
-        "budget" => Request::Text(TextRequest::Budget(new_text_of(given))),
-        "fmt" => Request::Text(TextRequest::Format(new_text_of(given))),
-        "list" => Request::Text(TextRequest::List(given.word("IMAGE"))),
-        "explain" => Request::Text(explain_of(given)),
-        "new" => Request::File(new_of(given)),
-        "copy" => Request::File(copy_of(given)),
-        "put" => Request::File(put_of(given)),
-        "get" => Request::File(get_of(given)),
-        "dump" => Request::File(dump_of(given)),
-        "diff" => Request::File(diff_of(given)),
-        "map" => Request::File(map_of(given)),
-        _ => Request::Text(TextRequest::Check(given.word("IMAGE"))),
+        "call" => call_of(alloc, given),
+        "trace" => trace_of(alloc, given),
+        "test" => test_of(alloc, given),
+        _ => Ok(plain_request(name, given)),
     }
-}
-
-/// Whether JSON objects are asked for. Nothing else is printed then, so nothing may ask for another form. A command without `--json` or
-/// without one of the other words has none of them.
-fn json_of(given: &mut Given<'_, '_>, diagnostics: bool) -> bool {
-    if !given.flag("json") {
-        return false;
-    }
-    given.refuse_if(diagnostics, JSON_OR_DIAGNOSTICS);
-    for line in JSON_OR_FORM.lines() {
-        let (flag, message) = parts_of(line, ' ');
-        let is_given = given.flag(flag);
-        given.refuse_if(is_given, Misuse::Wrong(message));
-    }
-    let has_page = given.setting("html").is_some();
-    given.refuse_if(has_page, JSON_OR_PAGE);
-    let has_script = given.setting("script").is_some();
-    given.refuse_if(has_script, JSON_OR_SCRIPT);
-    let is_printed = is_stream(given.word("OUT"));
-    given.refuse_if(is_printed, JSON_OR_OUTPUT);
-    true
 }
 
 /// The request of the words, and what is reported beside its faults. An error is what they are answered if something is wrong with them.
 fn asked_of<'a>(alloc: Global, matches: &ArgMatches<'a>) -> Result<Asked<'a>, Answer>
     ensures { IfOk result (λ asked. KeepsLimits asked.request) }
 {
-    let diagnostics = matches.get_flag("diagnostics");
-    let no_warnings = matches.get_flag("no-warnings");
-    let Some((name, words)) = matches.subcommand() else {
-        return Ok(Asked {
-            request: Request::Routines(RoutineRequest::Session),
-            limits: RunLimits::none(),
-            diagnostics,
-            no_warnings,
-            json: false,
-        });
+    let (name, words) = match matches.subcommand() {
+        Some(command) => command,
+        None => ("", matches),
     };
-    let mut given = Given::new(words);
-    let request = command_request(alloc, name, &mut given);
-    let limits = RunLimits::of(&mut given, name);
-    let json = json_of(&mut given, diagnostics);
-    match given.misuse() {
-        None => Ok(Asked {
+    let given = Given::new(words);
+    if let Some(message) = misuse_of(&given, name) {
+        return Err(misuse(alloc, message, name));
+    }
+    match command_request(alloc, name, &given) {
+        Ok(request) => Ok(Asked {
             request,
-            limits,
-            diagnostics,
-            no_warnings,
-            json,
+            limits: RunLimits::of(&given),
+            diagnostics: given.flag("diagnostics"),
+            no_warnings: given.flag("no-warnings"),
+            json: given.flag("json"),
         }),
-        Some(misuse) => Err(misuse.answer(alloc, name)),
+        Err(AllocError) => Err(Answer::Memory),
     }
 }
 

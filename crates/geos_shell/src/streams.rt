@@ -8,10 +8,10 @@ use crate::reason::Reason;
 use crate::replace::replace;
 use crate::reported::Diagnosed;
 use std::alloc::{AllocError, Global};
+use std::error::Error;
 use std::fmt::{self, Display, Formatter};
 use std::io::{ErrorKind, IsTerminal, Read, Write};
 use std::{fs, io};
-use thiserror::Error;
 
 /// The path that names a standard stream.
 pub const STANDARD: &str = "-";
@@ -22,21 +22,32 @@ pub(crate) fn is_stream(path: &str) -> bool {
 }
 
 /// Why bytes were not read, or not written.
-#[derive(Drop, Error)]
+#[derive(Drop)]
 pub enum StreamFault<'a> {
     /// The file with the path can't be read.
-    #[error("cannot read {}", Named(.0))]
     Read(&'a str, Reason),
     /// The file with the path can't be written.
-    #[error("cannot write {}", Named(.0))]
     Write(&'a str, Reason),
     /// The file is written, but a part of this name, which is a second name of it, can't be removed.
-    #[error("cannot remove {}", Named(.0.as_str()))]
     Left(String),
     /// An allocation was refused.
-    #[error("memory")]
     Memory,
 }
+
+impl Display for StreamFault<'_> {
+    fn fmt<W: fmt::Write>(&self, f: &mut Formatter<W>) -> fmt::Result {
+        let (words, name) = match self {
+            StreamFault::Read(path, _) => ("cannot read ", *path),
+            StreamFault::Write(path, _) => ("cannot write ", *path),
+            StreamFault::Left(name) => ("cannot remove ", name.as_str()),
+            StreamFault::Memory => return f.write_str("memory"),
+        };
+        f.write_str(words)?;
+        Named(name).fmt(f)
+    }
+}
+
+impl Error for StreamFault<'_> {}
 
 impl fmt::Debug for StreamFault<'_> {
     fn fmt<W: fmt::Write>(&self, f: &mut Formatter<W>) -> fmt::Result {

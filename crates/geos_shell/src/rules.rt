@@ -1,0 +1,113 @@
+//! Which words that `clap` takes are wrong all the same.
+
+use crate::command_line::parts_of;
+use crate::given::Given;
+use crate::numbers::number_in;
+
+/// The rules, in the order in which they are tested. A line has the command, or `*` for any; then conditions, with blanks between them;
+/// and after `: ` what is wrong if all of them are met:
+///   name            words are given under the name
+///   !name           none are
+///   name=-          one of them is the standard input
+///   name+other      so are two of those under both names
+///   name==other     the words are one path of a file
+///   name?0..9/3     what is given is no multiple of 3 from 0 to 9
+const RULES: &str = "\
+* area?512..16777216/512: the number of '--area' is a multiple of 512 from 512 to 16777216
+* region?65536..16777216/1: the number of '--region' is from 65536 to 16777216
+* steps?0..1000000/1: the number of '--steps' is from 0 to 1000000
+* width?60..1000/1: the number of '--width' is from 60 to 1000
+* H?0..65535/1: H is a number from 0 to 65535
+* C?0..65535/1: C is a number from 0 to 65535
+* AT?0..65535/1: AT is a number from 0 to 65535
+call IN=- !NAME: IN is the standard input, so NAME has to be given
+call update save: only one of '--update' and '--save' can be given
+call update !file: '--update' and '--save' require '--file'
+call save !file: '--update' and '--save' require '--file'
+trace html count: '--html' can't be given with '--only' or '--count'
+trace html only: '--html' can't be given with '--only' or '--count'
+test IN+SCRIPT: only one of IN and SCRIPT.. is the standard input
+asm IN==OUT: IN and OUT are one file, and the text would be lost
+explain !script vars: '--vars' is for a script, so '--script' has to be given
+explain IMAGE+script: only one of IMAGE and SCRIPT is the standard input
+run IMAGE+SCRIPT: only one of IMAGE and SCRIPT is the standard input
+* hex signed: only one of '--hex', '--signed' and '--text' can be given
+* hex text: only one of '--hex', '--signed' and '--text' can be given
+* signed text: only one of '--hex', '--signed' and '--text' can be given
+run update save: only one of '--update' and '--save' can be given
+* in-place TEXT=-: '--in-place' requires a file TEXT, and no OUT
+* in-place OUT: '--in-place' requires a file TEXT, and no OUT
+budget TEXT==OUT: TEXT and OUT are one file, and the text would be lost
+fmt TEXT==OUT: TEXT and OUT are one file, and the text would be lost
+* most-steps?0..4294967295/1: the number of '--most-steps' is from 0 to 4294967295
+* most-bytes?0..4294967295/1: the number of '--most-bytes' is from 0 to 4294967295
+* json diagnostics: only one of '--json' and '--diagnostics' can be given
+* json hex: only one of '--json' and '--hex' can be given
+* json signed: only one of '--json' and '--signed' can be given
+* json text: only one of '--json' and '--text' can be given
+* json label: only one of '--json' and '--label' can be given
+* json html: only one of '--json' and '--html' can be given
+* json script: only one of '--json' and '--script' can be given
+* json OUT=-: only one of '--json' and OUT '-' can be given";
+
+/// Whether a word is no multiple of a number within the limits, as a rule writes them.
+fn is_outside(word: &str, limits: &str) -> bool {
+    let (range, unit) = parts_of(limits, '/');
+    let (least, most) = range.split_once("..").unwrap_or((range, range));
+    match (
+        number_in(word),
+        number_in(least),
+        number_in(most),
+        number_in(unit),
+    ) {
+        (Some(n), Some(least), Some(most), Some(unit)) => {
+            n < least || most < n || n.checked_rem(unit) != Some(0)
+        }
+        _ => true,
+    }
+}
+
+/// Whether a condition of a rule is met.
+fn is_met(given: &Given<'_, '_>, condition: &str) -> bool {
+    if let Some(name) = condition.strip_prefix("!") {
+        return !given.has(name);
+    }
+    if let Some((name, limits)) = condition.split_once('?') {
+        return matches!(given.setting(name), Some(word) if is_outside(word, limits));
+    }
+    if let Some((name, other)) = condition.split_once("==") {
+        return given.has_path_twice(name, other);
+    }
+    if let Some((name, _)) = condition.split_once("=-") {
+        return given.streams(name) > 0;
+    }
+    match condition.split_once('+') {
+        Some((name, other)) => given.streams(name).saturating_add(given.streams(other)) > 1,
+        None => given.has(condition),
+    }
+}
+
+/// Whether the words of the command break a rule.
+fn is_broken(given: &Given<'_, '_>, command: &str, rule: &str) -> bool {
+    let (of, conditions) = parts_of(rule, ' ');
+    if of != "*" && of != command {
+        return false;
+    }
+    for condition in conditions.split(' ') {
+        if !is_met(given, condition) {
+            return false;
+        }
+    }
+    true
+}
+
+/// What is wrong with the words of the command, by the first rule that they break.
+pub(crate) fn misuse_of(given: &Given<'_, '_>, command: &str) -> Option<&'static str> {
+    for line in RULES.lines() {
+        let (rule, message) = line.split_once(": ").unwrap_or((line, ""));
+        if is_broken(given, command, rule) {
+            return Some(message);
+        }
+    }
+    None
+}
