@@ -30,22 +30,69 @@ fn count_bounded(routine: &Routine) -> usize {
     }
 }
 
-/// How many words there are up to the last one that may be read from where a routine begins.
-fn count_read(alloc: Global, image: &Image, r: u16) -> Result<usize, AllocError>
-    requires { r < length image.now.routines }
-{
-    let live = Liveness::of(alloc, image, ALL)?;
-    let words = live.before(usize::from(image.start(r)));
-    let unread = words.leading_zeros() as usize;
-    Ok(usize::saturating_sub(8, unread))
-}
-
 /// A fact with what helps.
 fn advice(alloc: Global, fact: String, cure: &str) -> Result<Advice, AllocError> {
     Ok(Advice {
         fact: fact.into_bytes(),
         cure: Vec::from_slice(alloc, cure.as_bytes())?,
     })
+}
+
+/// What is known of the routines of an image that are called.
+#[derive(Drop)]
+pub(crate) struct Callable<'i> {
+    image: &'i Image,
+    live: Liveness,
+}
+
+impl<'i> Callable<'i> {
+    /// The routines of an image. `AllocError` if the allocator refuses memory.
+    pub(crate) fn of(alloc: Global, image: &'i Image) -> Result<Callable<'i>, AllocError> {
+        Ok(Callable {
+            image,
+            live: Liveness::of(alloc, image, ALL)?,
+        })
+    }
+
+    /// How many words there are up to the last one that may be read from where a routine begins.
+    fn count_read(&self, r: u16) -> usize
+        requires { r < length self.now.image.now.routines }
+    {
+        let words = self.live.before(usize::from(self.image.start(r)));
+        let unread = words.leading_zeros() as usize;
+        usize::saturating_sub(8, unread)
+    }
+
+    /// The same as `advice_on_call`.
+    pub(crate) fn advice_on(
+        &self,
+        alloc: Global,
+        name: &str,
+        numbers: usize,
+    ) -> Result<Option<Advice>, AllocError> {
+        let Some(r) = routine_named(self.image, name.as_bytes()) else {
+            return Ok(None);
+        };
+        if numbers > 8 {
+            return Ok(None);
+        }
+        let bounded = count_bounded(self.image.routine(r));
+        if numbers < bounded {
+            let last = bounded.saturating_sub(1);
+            let fact = format!(in alloc;
+                "numbers in the call: {numbers}; the in line of {name} bounds words up to w{last}, and missing numbers are 0"
+            )?;
+            return Ok(Some(advice(alloc, fact, "write them all")?));
+        }
+        let read = self.count_read(r).max(bounded);
+        if numbers <= read {
+            return Ok(None);
+        }
+        let fact = format!(in alloc;
+            "numbers in the call: {numbers}; words that {name} reads: {read}"
+        )?;
+        Ok(Some(advice(alloc, fact, "omit the last numbers")?))
+    }
 }
 
 /// What a warning says of a call with so many numbers of the routine with the name: if its `in` line bounds more words, or if it reads fewer.
@@ -56,26 +103,5 @@ pub fn advice_on_call(
     name: &str,
     numbers: usize,
 ) -> Result<Option<Advice>, AllocError> {
-    let Some(r) = routine_named(image, name.as_bytes()) else {
-        return Ok(None);
-    };
-    if numbers > 8 {
-        return Ok(None);
-    }
-    let bounded = count_bounded(image.routine(r));
-    if numbers < bounded {
-        let last = bounded.saturating_sub(1);
-        let fact = format!(in alloc;
-            "numbers in the call: {numbers}; the in line of {name} bounds words up to w{last}, and missing numbers are 0"
-        )?;
-        return Ok(Some(advice(alloc, fact, "write them all")?));
-    }
-    let read = count_read(alloc, image, r)?.max(bounded);
-    if numbers <= read {
-        return Ok(None);
-    }
-    let fact = format!(in alloc;
-        "numbers in the call: {numbers}; words that {name} reads: {read}"
-    )?;
-    Ok(Some(advice(alloc, fact, "omit the last numbers")?))
+    Callable::of(alloc, image)?.advice_on(alloc, name, numbers)
 }

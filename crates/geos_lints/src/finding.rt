@@ -2,8 +2,8 @@
 
 use crate::liveness::Liveness;
 use crate::reaching::Reaching;
-use crate::words::{ALL, REFUSAL, can_be_refused, only_computes, written};
-use geos_image::{Image, Instr};
+use crate::words::{ALL, REFUSAL, can_be_refused, only_computes, read, written};
+use geos_image::{Image, Instr, Point, falls_through};
 use geos_opcodes::Opcode;
 use std::alloc::{AllocError, Global};
 
@@ -16,8 +16,29 @@ pub enum Lint {
     NeverRead,
     /// A value in word 7 is read after the instruction, and also if it is refused, when the number of the refusal is there.
     LostInWord7,
+    /// The instruction goes on to a label of refusals, from where word 7 is output.
+    RunsIntoRefusals,
     /// The counter is set to 0, so that its LOOP does not turn.
     NeverTurns,
+    /// The counter of the LOOP is 0 on each way, so that it never jumps.
+    NeverJumps,
+}
+
+/// Whether word 7 is output from a pc on, before another refusal leads there, and before anything else reads or sets the word.
+fn outputs_word_7(reaching: &Reaching, points: &[Point], start: usize) -> bool {
+    for (pc, point) in points.iter().enumerate().skip(start) {
+        let i = &point.instr;
+        if pc > start && reaching.is_after_refusal(pc) {
+            return false;
+        }
+        if (read(i, ALL) | written(i)) & REFUSAL != 0 {
+            return i.opcode == Opcode::Out;
+        }
+        if !falls_through(i.opcode) {
+            return false;
+        }
+    }
+    false
 }
 
 /// What is known of the words of an image.
@@ -48,16 +69,28 @@ impl Known {
             && self.live_here.after(pc, i) & self.live_here.before(target) & REFUSAL != 0
     }
 
+    /// Whether an instruction goes on, without a refusal, to where refusals lead and word 7 is output.
+    fn runs_into_refusals(&self, points: &[Point], pc: usize, i: &Instr) -> bool {
+        let next = pc.saturating_add(1);
+        self.reaching.is_after_refusal(next)
+            && self.reaching.leaves_unset(pc, i)
+            && outputs_word_7(&self.reaching, points, next)
+    }
+
     /// What is found at an instruction.
-    fn lint_at(&self, pc: usize, i: &Instr) -> Option<Lint> {
+    fn lint_at(&self, points: &[Point], pc: usize, i: &Instr) -> Option<Lint> {
         if !self.reaching.is_reached(pc) {
             Some(Lint::NeverReached)
         } else if only_computes(i) && self.live.before(pc.saturating_add(1)) & written(i) == 0 {
             Some(Lint::NeverRead)
+        } else if self.runs_into_refusals(points, pc, i) {
+            Some(Lint::RunsIntoRefusals)
         } else if self.loses_word_7(pc, i) {
             Some(Lint::LostInWord7)
         } else if i.opcode == Opcode::Setk && i.imm == 0 {
             Some(Lint::NeverTurns)
+        } else if self.reaching.is_at_zero(pc, i) {
+            Some(Lint::NeverJumps)
         } else {
             None
         }
@@ -70,7 +103,7 @@ pub fn lints(alloc: Global, image: &Image) -> Result<Vec<(usize, Lint)>, AllocEr
     let mut found = Vec::new(alloc);
     let mut was_reached = true;
     for (pc, point) in image.points().iter().enumerate() {
-        let lint = known.lint_at(pc, &point.instr);
+        let lint = known.lint_at(image.points(), pc, &point.instr);
         let is_reached = !matches!(lint, Some(Lint::NeverReached));
         if let Some(lint) = lint
             && (is_reached || was_reached)

@@ -10,6 +10,7 @@ mod finding;
 mod items;
 mod liveness;
 mod reaching;
+mod scripts;
 mod telling;
 mod words;
 
@@ -17,4 +18,5 @@ pub use advice::Advice;
 pub use calls::advice_on_call;
 pub use finding::{Lint, lints};
 pub use items::{Doubled, doubled_items};
+pub use scripts::{DoubtfulCall, DoubtfulCalls, doubtful_calls};
 pub use telling::{advice_on, advice_on_doubled, warnings};

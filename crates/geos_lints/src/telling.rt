@@ -29,9 +29,18 @@ fn fact_of(alloc: Global, lint: Lint, i: &Instr) -> Result<String, AllocError> {
                 "if {name} is refused, the number of the refusal replaces the value in w7, which is read later"
             )
         }
+        Lint::RunsIntoRefusals => {
+            format!(in alloc;
+                "after {name} control comes to where refusals lead, and outputs w7 without a refusal"
+            )
+        }
         Lint::NeverTurns => {
             let counter = i.a;
             format!(in alloc; "k{counter} is set to 0, so its LOOP goes on at once and never jumps")
+        }
+        Lint::NeverJumps => {
+            let counter = i.a;
+            format!(in alloc; "k{counter} is 0 here on each path, so this LOOP never jumps")
         }
     }
 }
@@ -40,6 +49,8 @@ fn fact_of(alloc: Global, lint: Lint, i: &Instr) -> Result<String, AllocError> {
 fn cure_of(lint: Lint) -> &'static str {
     match lint {
         Lint::LostInWord7 => "keep the value in another word",
+        Lint::RunsIntoRefusals => "write RET or JMP after it",
+        Lint::NeverJumps => "count this loop by another counter",
         Lint::NeverReached | Lint::NeverRead | Lint::NeverTurns => "",
     }
 }
