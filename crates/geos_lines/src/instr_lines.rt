@@ -11,7 +11,8 @@ ghost use Rattle.geos_lines.specs.Forms.{fits, kinds_of, IsOperand, StopsHere, S
 use crate::forms::{noun, put_form};
 use crate::other_machines::meaning_of;
 use crate::sentences::{
-    COMMENT, Wrong, begins_comment, put_above, put_quoted, put_too_much, put_word, put_wrong,
+    COMMENT, Wrong, begins_comment, other_file, put_above, put_quoted, put_too_much, put_word,
+    put_wrong,
 };
 use crate::words::{Word, word_from};
 use geos_opcodes::{FIELDS, OPCODES, Opcode, Operand, operand_at};
@@ -307,6 +308,9 @@ fn is_small_name(word: &[u8]) -> bool {
 
 /// Appends what else may have been meant by a word, a comment or a label.
 fn put_other(out: &mut Text, word: &[u8], next: Option<Word>) {
+    if let Some(file) = other_file(word) {
+        return out.put(file);
+    }
     if begins_comment(word) {
         return out.put(COMMENT);
     }

@@ -11,12 +11,12 @@ const MEANINGS: [(&str, &str); 12] = [
         "BLT, which jumps if a word is below another (geos help BLT)",
     ),
     (
-        "SHL LSL SAL SLL ASL MULT IMUL",
+        "SHL LSL SAL SLL ASL MUL MULT IMUL",
         "MULI, which multiplies by a number, as by 2 for one bit to the left (geos help MULI)",
     ),
     (
         "LSR SRL ASR SAR SRA DIV IDIV",
-        "SHR, which shifts to the right (geos help SHR)",
+        "SHR, which shifts to the right by a number, as by 1 to halve (geos help SHR)",
     ),
     (
         "OR ORR ORI XOR EOR XORI",

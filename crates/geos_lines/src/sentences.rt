@@ -126,9 +126,33 @@ pub(crate) fn begins_comment(word: &[u8]) -> bool {
     word.starts_with(b"#") || word.starts_with(b"/") || word.starts_with(b"--")
 }
 
+/// How files begin that are no texts in ASCII, and what they are.
+const OTHER_FILES: [(&[u8], &str); 4] = [
+    (
+        b"GRT1",
+        ": this is an image, and no text: geos list prints it as a text",
+    ),
+    (b"\x7fELF", ": this is a program, and no text"),
+    (b"\xff\xfe", ": this text is in UTF-16: save it as UTF-8"),
+    (b"\xfe\xff", ": this text is in UTF-16: save it as UTF-8"),
+];
+
+/// What the file is that begins with a word, if it is no text in ASCII.
+pub(crate) fn other_file(word: &[u8]) -> Option<&'static str> {
+    for (beginning, said) in &OTHER_FILES {
+        if word.starts_with(*beginning) {
+            return Some(*said);
+        }
+    }
+    None
+}
+
 /// What a word has that none may have, or that it is longer than this.
 pub(crate) fn hint(word: &[u8], most: usize) -> Option<&'static str> {
-    if word.starts_with(b"\xef\xbb\xbf") {
+    let file = other_file(word);
+    if file.is_some() {
+        file
+    } else if word.starts_with(b"\xef\xbb\xbf") {
         Some(": take out the byte order mark at the beginning of the text")
     } else if word.contains(&b'\r') {
         Some(": a line ends with LF or CR LF, and not with only CR")
