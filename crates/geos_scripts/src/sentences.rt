@@ -14,12 +14,37 @@ fn text_of_command(word: Word) -> &'static str {
     }
 }
 
+/// The text about `=>` in a script that is no test.
+const TEXT_OF_TEST: &str = " belongs to a test: use geos test, or omit it and what follows";
+
 /// The text about a word that is no number.
 fn text_of_number(word: Word) -> &'static str {
     if word.bytes.starts_with(b"->") {
         " is no number: write -> and the name as two words, as -> h"
+    } else if word.bytes == b"=>".as_slice() {
+        TEXT_OF_TEST
+    } else if word.bytes.starts_with(b"=>") {
+        " is no number: write => and the output as two words, as => 55"
     } else {
         " is no number: a number has only decimal digits"
+    }
+}
+
+/// The text about a word after a block.
+fn text_of_number_behind(word: Word) -> &'static str {
+    if word.bytes == b"=>".as_slice() {
+        TEXT_OF_TEST
+    } else {
+        " comes after a block: numbers come first"
+    }
+}
+
+/// The text about a word that comes after update, save or revert.
+fn text_of_behind(word: Word) -> &'static str {
+    if word.bytes == b"=>".as_slice() {
+        TEXT_OF_TEST
+    } else {
+        " is too much: nothing comes after this command"
     }
 }
 
@@ -101,11 +126,7 @@ fn put_call(out: &mut Text, image: &Image, fault: &Fault) {
         Fault::NoNumber(word) => put_said(out, word, text_of_number(*word)),
         Fault::TooHigh(word) => put_said(out, word, " is above 65535: use a lower number"),
         Fault::PastBound(word, bound, index) => put_past(out, word, *bound, *index),
-        Fault::NumberBehind(word) => put_said(
-            out,
-            word,
-            " comes after a block: numbers come first",
-        ),
+        Fault::NumberBehind(word) => put_said(out, word, text_of_number_behind(*word)),
         Fault::NoHandle(word) => put_said(out, word, " is no block: a block is @ and its handle"),
         Fault::HighHandle(word) => put_said(
             out,
@@ -156,11 +177,7 @@ pub(crate) fn put_fault(out: &mut Text, image: &Image, fault: Option<Fault>) {
     match fault {
         None => out.put("it is no command that may be asked for"),
         Some(Fault::NoCommand(word)) => put_said(out, &word, text_of_command(word)),
-        Some(Fault::Behind(word)) => put_said(
-            out,
-            &word,
-            " is too much: nothing comes after this command",
-        ),
+        Some(Fault::Behind(word)) => put_said(out, &word, text_of_behind(word)),
         Some(fault) => put_call(out, image, &fault),
     }
 }
