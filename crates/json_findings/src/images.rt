@@ -91,7 +91,7 @@ impl<'i> Judged<'i, '_, '_> {
         };
         let register = match lint {
             Lint::LostInWord7 => Some(Register::Word(7)),
-            Lint::NeverReached | Lint::NeverRead | Lint::NeverTurns => None,
+            _ => None,
         };
         put_finding(
             alloc,
