@@ -18,7 +18,7 @@ pub use fault::{FaultyText, Refused, TextFault};
 pub use limited::{Limited, Limits};
 pub use requests::{
     KnownLines, assemble, assemble_all, budget, check, explain, explain_script, format,
-    known_lines, list, read_and_warn, tell_warning,
+    known_at_lines, known_lines, list, read_and_warn, tell_warning,
 };
 pub use runnable::Runnable;
 pub use sources::FaultySource;

@@ -11,13 +11,15 @@ use geos_grants::Effects;
 use geos_shell::RunLimits;
 use std::alloc::Global;
 
-/// What public routines may do, and how many steps they may take.
+/// What public routines may do, and how many steps and bytes they may take.
 #[derive(Clone, Copy)]
 pub struct Limits<'a> {
     /// What they may do, if that is limited.
     pub grants: Option<Effects>,
     /// The highest budget that each may have, if that is limited.
     pub most_steps: Option<u32>,
+    /// How many bytes more than before the blocks in memory may have.
+    pub most_bytes: u32,
     /// The name of the only routine that is called; none if any may be.
     pub called: Option<&'a [u8]>,
 }
@@ -44,6 +46,7 @@ impl<'a> Limits<'a> {
         Ok(Limits {
             grants,
             most_steps,
+            most_bytes: limits.most_bytes,
             called,
         })
     }

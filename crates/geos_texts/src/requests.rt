@@ -16,9 +16,8 @@ use geos_shell::{
     Named, NewText, Reports, STANDARD, StreamFault, print, print_lines, read, tell, write,
 };
 use geos_verify::{Reject, check as check_image};
-use line_marks::LineMarks;
+use line_marks::{LineMarks, formatted};
 use std::alloc::{AllocError, Global};
-use text_format::formatted;
 
 /// The most bytes that are read of a file: one more than a text may have, and more than any image has.
 pub(crate) const MOST_READ: u64 = MOST_BYTES as u64 + 1;
@@ -302,6 +301,15 @@ pub fn known_lines<'a>(
         lines: explained_text(rt, &bytes, &marks)?.text,
         of_text: true,
     })
+}
+
+/// The lines of an assembly text with what is known at each instruction, as `explain` prints them. Empty if the text has no image.
+pub fn known_at_lines(alloc: Global, text: &[u8]) -> Result<Vec<u8>, AllocError> {
+    let Unmarked { bytes, .. } = Unmarked::completed(alloc, Vec::from_slice(alloc, text)?)?;
+    match explain_text_bytes(alloc, &bytes)? {
+        Ok(explained) => Ok(explained.text),
+        Err(_faulty) => Ok(Vec::new(alloc)),
+    }
 }
 
 /// Prints the listing of an image, or the lines of a text, with what is known at each instruction, and comments with the effects of each

@@ -11,7 +11,7 @@ use geos_lints::{Advice, advice_on_call, warnings};
 use geos_shell::{Named, StreamFault, read};
 use geos_verify::{check, refused_places};
 use line_marks::{LineMarks, Origin, origins_of};
-use std::alloc::Global;
+use std::alloc::{AllocError, Global};
 
 /// An image, or a text in which line marks are comments.
 #[derive(Drop)]
@@ -21,33 +21,46 @@ pub(crate) struct Unmarked {
     pub(crate) marks: LineMarks,
 }
 
+impl Unmarked {
+    /// The image or the text that bytes are.
+    fn of(alloc: Global, mut bytes: Vec<u8>) -> Result<Unmarked, AllocError> {
+        let marks = if begins_as_image(&bytes) {
+            LineMarks::new(alloc)
+        } else {
+            LineMarks::take(alloc, &mut bytes)?
+        };
+        Ok(Unmarked { bytes, marks })
+    }
+
+    /// The same with the least budgets, if it is a draft, in which `?` stands for the budget of a routine.
+    pub(crate) fn completed(alloc: Global, bytes: Vec<u8>) -> Result<Unmarked, AllocError> {
+        let Unmarked { bytes, marks } = Unmarked::of(alloc, bytes)?;
+        if begins_as_image(&bytes) {
+            return Ok(Unmarked { bytes, marks });
+        }
+        let bytes = completed(alloc, bytes)?;
+        Ok(Unmarked { bytes, marks })
+    }
+}
+
 /// Reads an image or a text.
 pub(crate) fn read_unmarked<'a>(
     rt: &HostRuntime,
     path: &'a str,
 ) -> Result<Unmarked, StreamFault<'a>> {
-    let mut bytes = read(rt, path, MOST_READ)?;
-    if begins_as_image(&bytes) {
-        let marks = LineMarks::new(rt.alloc());
-        return Ok(Unmarked { bytes, marks });
-    }
-    match LineMarks::take(rt.alloc(), &mut bytes) {
-        Ok(marks) => Ok(Unmarked { bytes, marks }),
+    match Unmarked::of(rt.alloc(), read(rt, path, MOST_READ)?) {
+        Ok(unmarked) => Ok(unmarked),
         Err(_) => Err(StreamFault::Memory),
     }
 }
 
-/// Reads an image or a text. A draft, in which `?` stands for the budget of a routine, comes with the least budgets.
+/// Reads an image or a text. A draft comes with the least budgets.
 pub(crate) fn read_completed<'a>(
     rt: &HostRuntime,
     path: &'a str,
 ) -> Result<Unmarked, StreamFault<'a>> {
-    let Unmarked { bytes, marks } = read_unmarked(rt, path)?;
-    if begins_as_image(&bytes) {
-        return Ok(Unmarked { bytes, marks });
-    }
-    match completed(rt.alloc(), bytes) {
-        Ok(bytes) => Ok(Unmarked { bytes, marks }),
+    match Unmarked::completed(rt.alloc(), read(rt, path, MOST_READ)?) {
+        Ok(unmarked) => Ok(unmarked),
         Err(_) => Err(StreamFault::Memory),
     }
 }
@@ -72,12 +85,18 @@ impl<'a> Runnable<'a> {
     /// `TextFault::Stream` if the path cannot be read, `TextFault::Source` if the source has a fault, and `TextFault::Assemble` if the text
     /// has no image.
     pub fn read(rt: &HostRuntime, path: &'a str) -> Result<Runnable<'a>, TextFault<'a>> {
+        Runnable::of(rt.alloc(), path, read(rt, path, MOST_READ)?)
+    }
+
+    /// The same of the bytes of what a path names.
+    pub fn of(alloc: Global, path: &'a str, bytes: Vec<u8>) -> Result<Runnable<'a>, TextFault<'a>> {
         if is_source(path) {
-            let text = read(rt, path, MOST_READ)?;
-            return compiled(rt.alloc(), path, &text);
+            return compiled(alloc, path, &bytes);
         }
-        let Unmarked { bytes, marks } = read_completed(rt, path)?;
-        match image_of(rt.alloc(), bytes) {
+        let Ok(Unmarked { bytes, marks }) = Unmarked::completed(alloc, bytes) else {
+            return Err(TextFault::Stream(StreamFault::Memory));
+        };
+        match image_of(alloc, bytes) {
             Ok(Made { image, lines, text }) => Ok(Runnable {
                 path,
                 image,
@@ -86,11 +105,7 @@ impl<'a> Runnable<'a> {
                 marks,
             }),
             Err(NotMade { text, fault }) => Err(TextFault::Assemble(FaultyText::new(
-                rt.alloc(),
-                path,
-                text,
-                marks,
-                fault,
+                alloc, path, text, marks, fault,
             ))),
         }
     }

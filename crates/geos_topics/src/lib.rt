@@ -22,6 +22,6 @@ fn entry_of<'a>(table: &'a str, words: &str) -> Option<&'a str> {
 
 /// What there is to say of a topic, in lines: `DEREF` is an instruction, `V4` a rule, `refused 4` a refusal and `why 2` a fault of a text.
 /// `None` if the words are no topic.
-pub(crate) fn topic(words: &str) -> Option<&'static str> {
+pub fn topic(words: &str) -> Option<&'static str> {
     entry_of(INSTRUCTIONS, words).or(entry_of(OTHERS, words))
 }

@@ -30,19 +30,19 @@ wa = wb * n, modulo 65,536.
 Example: MULI w3 w0 2    (in examples/notes.asm)
 
 CHK wa n L
-to L if wa is above n.
+jumps to L if wa is above n.
 Example: CHK w3 100 both    (in examples/line.asm)
 
 JMP L
-to L.
+jumps to L.
 Example: JMP not_made    (in examples/accounts.asm)
 
 BEQ wa wb L
-to L if wa is wb.
+jumps to L if wa is equal to wb.
 Example: BEQ w3 w2 make    (in examples/accounts.asm)
 
 BLT wa wb L
-to L if wa is below wb.
+jumps to L if wa is below wb.
 Example: BLT w4 w2 both    (in examples/accounts.asm)
 
 SETK ka n
@@ -54,7 +54,7 @@ ka = wb.
 Example: SETKW k0 w3    (in examples/line.asm)
 
 LOOP ka L
-if ka is above 0: takes 1 from it, to L.
+if ka is above 0, subtracts 1 from ka and jumps to L.
 Example: LOOP k0 next    (in examples/accounts.asm)
 
 CALL n
@@ -95,7 +95,7 @@ locks).
 Example: MFREE w0 not_made    (in examples/line.asm)
 
 SNE sa sb L
-to L if sa and sb contain the same block.
+jumps to L if sa and sb contain the same block.
 Example: SNE s0 s1 both    (in examples/accounts.asm)
 
 LALLOC sa wb wc L
@@ -167,13 +167,13 @@ LDXB wa pb wc
 wa = the byte at wc of pb; the verifier requires that it lies within pb.
 
 LDXW wa pb wc
-wa = the word at wc of pb, as LDXB.
+wa = the word at wc of pb, with the requirement of LDXB.
 
 STXB wa pb wc
-the byte at wc of pb = the low byte of wa, as LDXB.
+the byte at wc of pb = the low byte of wa, with the requirement of LDXB.
 
 STXW wa pb wc
-the word at wc of pb = wa, as LDXB.
+the word at wc of pb = wa, with the requirement of LDXB.
 
 LDCB wa pb wc L
 wa = the byte at wc of pb; the index is tested at run time.
@@ -183,21 +183,21 @@ group).
 Example: LDCB w1 p1 w5 both    (in examples/line.asm)
 
 LDCW wa pb wc L
-wa = the word at wc of pb, as LDCB.
+wa = the word at wc of pb; the index is tested at run time.
 It is refused, with the number in w7, and control goes to L: 14 (the offset or bytes lie
 past the end of the chunk, or of the pointer's bytes; or a map item other than 0 has no
 group).
 Example: LDCW w6 p0 w5 next    (in examples/index.asm)
 
 STCB wa pb wc L
-the byte at wc of pb = the low byte of wa, as LDCB.
+the byte at wc of pb = the low byte of wa; the index is tested at run time.
 It is refused, with the number in w7, and control goes to L: 14 (the offset or bytes lie
 past the end of the chunk, or of the pointer's bytes; or a map item other than 0 has no
 group).
 Example: STCB w2 p0 w1 unlock    (in examples/line.asm)
 
 STCW wa pb wc L
-the word at wc of pb = wa, as LDCB.
+the word at wc of pb = wa; the index is tested at run time.
 It is refused, with the number in w7, and control goes to L: 14 (the offset or bytes lie
 past the end of the chunk, or of the pointer's bytes; or a map item other than 0 has no
 group).
@@ -207,7 +207,7 @@ MOVP pa pb
 pa = pb.
 
 COPY pa pb n
-the first n bytes of pa = those of pb, as they were.
+copies the first n bytes of pb to pa; the two may overlap.
 Example: COPY p0 p1 2    (in examples/lend.asm)
 
 PLEN wa pb
@@ -215,8 +215,8 @@ wa = the length of pb in bytes.
 Example: PLEN w5 p0    (in examples/index.asm)
 
 CANEW sa wb n L
-wb = a new chunk, an empty array: elements of n bytes, of varying sizes for n 0. It moves
-the chunks of the block: pointers to them become stale.
+wb = a new chunk with an empty array; elements have n bytes, or varying sizes if n is 0. It
+moves the chunks of the block: pointers to them become stale.
 It is refused, with the number in w7, and control goes to L: 6 (the block would need more
 than 65,520 bytes, or the commit more than an area of the file); 4 (no room in the region).
 Example: CANEW s0 w1 0 made    (in examples/index.asm)
@@ -225,56 +225,55 @@ CAADD sa wb wc L
 appends an element of wc zero bytes to the array wb. It moves the chunks of the block:
 pointers to them become stale.
 It is refused, with the number in w7, and control goes to L: 2 (no chunk has this handle); 8
-(the chunk's bytes are no array, or one whose elements can't be resized); 6 (the block would
-need more than 65,520 bytes, or the commit more than an area of the file); 4 (no room in the
-region).
+(the chunk's bytes are no array, or an array whose elements can't be resized); 6 (the block
+would need more than 65,520 bytes, or the commit more than an area of the file); 4 (no room
+in the region).
 Example: CAADD s0 w1 w2 added    (in examples/records.asm)
 
 CAINS sa wb wc wd L
-inserts an element of wd zero bytes at index wc of the array wb, at most the count. It moves
-the chunks of the block: pointers to them become stale.
+inserts an element of wd zero bytes at index wc of the array wb; wc is at most the count. It
+moves the chunks of the block: pointers to them become stale.
 It is refused, with the number in w7, and control goes to L: 2 (no chunk has this handle); 8
-(the chunk's bytes are no array, or one whose elements can't be resized); 9 (the array has
-no such element, or no such place for one); 6 (the block would need more than 65,520 bytes,
-or the commit more than an area of the file); 4 (no room in the region).
+(the chunk's bytes are no array, or an array whose elements can't be resized); 9 (the index
+is too high for the array); 6 (the block would need more than 65,520 bytes, or the commit
+more than an area of the file); 4 (no room in the region).
 Example: CAINS s0 w1 w4 w6 unlock    (in examples/index.asm)
 
 CADEL sa wb wc L
 deletes element wc of the array wb. It moves the chunks of the block: pointers to them
 become stale.
 It is refused, with the number in w7, and control goes to L: 2 (no chunk has this handle); 8
-(the chunk's bytes are no array, or one whose elements can't be resized); 9 (the array has
-no such element, or no such place for one).
+(the chunk's bytes are no array, or an array whose elements can't be resized); 9 (the index
+is too high for the array).
 Example: CADEL s0 w1 w2 x    (in examples/records.asm)
 
 CACOUNT sa wb wc L
 wb = the count of elements of the array wc.
 It is refused, with the number in w7, and control goes to L: 2 (no chunk has this handle); 8
-(the chunk's bytes are no array, or one whose elements can't be resized).
+(the chunk's bytes are no array, or an array whose elements can't be resized).
 Example: CACOUNT s0 w4 w1 added    (in examples/records.asm)
 
 CAELT sa pb wc wd n L
 pb = element wd of the array wc, of at least n bytes.
 It is refused, with the number in w7, and control goes to L: 2 (no chunk has this handle); 8
-(the chunk's bytes are no array, or one whose elements can't be resized); 9 (the array has
-no such element, or no such place for one); 3 (the chunk or element is shorter than
-requested).
+(the chunk's bytes are no array, or an array whose elements can't be resized); 9 (the index
+is too high for the array); 3 (the chunk or element is shorter than requested).
 Example: CAELT s0 p0 w1 w4 2 place    (in examples/index.asm)
 
 CAZERO sa wb L
-deletes all elements of the array wb; their size stays. It moves the chunks of the block:
-pointers to them become stale.
+deletes all elements of the array wb; the element size does not change. It moves the chunks
+of the block: pointers to them become stale.
 It is refused, with the number in w7, and control goes to L: 2 (no chunk has this handle); 8
-(the chunk's bytes are no array, or one whose elements can't be resized).
+(the chunk's bytes are no array, or an array whose elements can't be resized).
 Example: CAZERO s0 w1 cleared    (in examples/index.asm)
 
 CARESIZE sa wb wc wd L
 resizes element wc of the array wb to wd bytes. It moves the chunks of the block: pointers
 to them become stale.
 It is refused, with the number in w7, and control goes to L: 2 (no chunk has this handle); 8
-(the chunk's bytes are no array, or one whose elements can't be resized); 9 (the array has
-no such element, or no such place for one); 6 (the block would need more than 65,520 bytes,
-or the commit more than an area of the file); 4 (no room in the region).
+(the chunk's bytes are no array, or an array whose elements can't be resized); 9 (the index
+is too high for the array); 6 (the block would need more than 65,520 bytes, or the commit
+more than an area of the file); 4 (no room in the region).
 Example: CARESIZE s0 w1 w4 w6 unlock    (in examples/index.asm)
 
 VNEW sa wb wc L
@@ -301,7 +300,7 @@ unlocks the block of sa, and empties sa.
 Example: VUNLOCK s0    (in examples/accounts.asm)
 
 VFREE wa L
-frees the file's block wa; unmaps it.
+frees the file's block wa; if it is the map block, there is no map block afterwards.
 It is refused, with the number in w7, and control goes to L: 1 (no block has this handle, or
 the block is no group and a group is required); 15 (the user ID is 65,280 (groups), or a
 group is named instead of a block); 7 (the block is locked, or has 65,535 locks).
@@ -324,21 +323,21 @@ wa = the map block, or 0.
 Example: VGETMAP w0    (in examples/counter.asm)
 
 VSETMAP wa L
-the map block is wa; 0 for none.
+makes the block wa the map block; 0 means no map block.
 It is refused, with the number in w7, and control goes to L: 1 (no block has this handle, or
 the block is no group and a group is required); 15 (the user ID is 65,280 (groups), or a
 group is named instead of a block).
 Example: VSETMAP w0 undo    (in examples/counter.asm)
 
 VUPDATE L
-commits the current blocks as current, the saved ones as saved.
+commits the current blocks; the saved blocks do not change.
 It is refused, with the number in w7, and control goes to L: 12 (an earlier commit failed at
 or after its write of the selector, so it is unknown what the device has; nothing more is
 written to it); 6 (the block would need more than 65,520 bytes, or the commit more than an
 area of the file); 13 (memory for writing the file was refused); 11 (the device failed).
 
 VSAVE L
-commits the current blocks as current and as saved.
+commits the current blocks, and makes them the saved blocks too.
 It is refused, with the number in w7, and control goes to L: 12 (an earlier commit failed at
 or after its write of the selector, so it is unknown what the device has; nothing more is
 written to it); 6 (the block would need more than 65,520 bytes, or the commit more than an
@@ -346,7 +345,7 @@ area of the file); 13 (memory for writing the file was refused); 11 (the device 
 Example: VSAVE not_saved    (in examples/accounts.asm)
 
 VREVERT L
-commits the saved blocks as current and as saved; they are the file's blocks again.
+commits the saved blocks, and makes them the current blocks again.
 It is refused, with the number in w7, and control goes to L: 12 (an earlier commit failed at
 or after its write of the selector, so it is unknown what the device has; nothing more is
 written to it); 6 (the block would need more than 65,520 bytes, or the commit more than an
@@ -360,7 +359,7 @@ room in the region).
 Example: GNEW w0 not_made    (in examples/notes.asm)
 
 GFREE wa L
-frees the group wa; unmaps a map item in it.
+frees the group wa; if the map item is in it, there is no map item afterwards.
 It is refused, with the number in w7, and control goes to L: 1 (no block has this handle, or
 the block is no group and a group is required); 7 (the block is locked, or has 65,535
 locks).
@@ -427,11 +426,12 @@ unlocks the group of sa, and empties sa.
 Example: IUNLOCK s0    (in examples/notes.asm)
 
 IGETMAP wa wb
-wa = the map item's group, then wb = the item; both 0 for none.
+wa = the map item's group, then wb = the map item; both are 0 if there is none.
 Example: IGETMAP w0 w1    (in examples/notes.asm)
 
 ISETMAP wa wb L
-the map item is the item wb of the group wa, whether it exists or not; 0 and 0 for none.
+makes the item wb of the group wa the map item, whether this item exists or not; 0 and 0
+mean no map item.
 It is refused, with the number in w7, and control goes to L: 1 (no block has this handle, or
 the block is no group and a group is required); 14 (the offset or bytes lie past the end of
 the chunk, or of the pointer's bytes; or a map item other than 0 has no group).
@@ -458,20 +458,20 @@ Cure: in a public routine `in` and `out` have no pointers, and only borrowed slo
 `in` without `#`, and the same, marked or not, in `out`.
 
 V4 StalePointer
-It refuses: a pointer that is read, written, copied (by MOVP too) or measured is stale.
+It refuses: a stale pointer is read, written, measured or copied (by MOVP too).
 Example: p0 may be stale here; LFREE at line 14 may have moved its chunk: fetch p0 again
 Cure: after an instruction on an item, fetch pointers into every group again. If several
 paths lead to a label, fetch after it.
 
 V5 PassesEnd
-It refuses: a read or a write may pass the least length of its pointer.
+It refuses: a read or a write may exceed the least length of its pointer.
 Example: w0<=7 is required, since 8 bytes are known at p0, and nothing is known of w0; CHK
 w0 7 L before this bounds it, or LDCB tests it
 Cure: AND also bounds an index.
 
 V6 ChangesUnmarked
 It refuses: a write through a pointer, or an instruction that moves the chunks of the block,
-changes a slot's VM block or DB group that is not known to be marked.
+changes a VM block or DB group in a slot, and it is not known that this block is marked.
 Example: s0=vm is changed here, and may not be marked: VDIRTY s0 before this marks it
 
 V7 LocksIntoHeld
@@ -480,31 +480,33 @@ Example: s0=mem is locked here, and an empty slot is required: use another slot,
 s0 first
 
 V8 WrongSlot
-It refuses: a slot is empty or has a block of the wrong kind when it is used, other than to
-lock into it; or a borrowed slot is unlocked. SNE requires two blocks of one kind.
+It refuses: an instruction other than a lock uses a slot that is empty or has a block of the
+wrong kind; or a borrowed slot is unlocked. SNE requires two blocks of one kind.
 Example: s0 is empty here, and a locked block is required: lock one into s0 first, or say s0
 in the in line
 Cure: lock a block into the slot on each path; leave borrowed blocks to the caller.
 
 V9 CommitsHeld
-It refuses: VUPDATE, VSAVE or VREVERT while a slot contains a VM block or a DB group.
+It refuses: VUPDATE, VSAVE or VREVERT is used while a slot contains a VM block or a DB
+group.
 Example: s0=vm is locked where the file is written: unlock it before; s0 is locked since the
 in line: unlock it in the caller
 
 V10 CallMisfit
-It refuses: CALL of a routine that does not come before its own, or whose entry row the row
-does not imply.
+It refuses: the callee of a CALL does not come before the calling routine, or the row does
+not imply the callee's entry row.
 Example: s0=vm is required by v9, and not known here; first lock a block into s0
 Cure: before the CALL, lock, fetch, bound or compare what the callee's `in` names. Empty the
 slots that the callee locks itself.
 
 V11 ExitMisfit
-It refuses: RET if the row does not imply the exit row.
+It refuses: the row at a RET does not imply the exit row.
 Example: s0=mem is still locked at the return; s0 is locked since line 45: say it in the out
 line, or MUNLOCK s0 before the return
 
 V12 EdgeMisfit
-It refuses: the row after an instruction does not imply the row where the edge leads.
+It refuses: the row after an instruction does not imply the row of the instruction to which
+an edge leads.
 Example: s0=mem is required at line 52, and not known here; no path leads here: take it out
 
 V13 EdgeUnpaid
@@ -513,8 +515,8 @@ Example: 4 steps are required from here, and 2 are left
 Cure: put a LOOP on each cycle.
 
 V14 OverBudget
-It refuses: at the first pc of a routine the potential's constant is above the budget, or a
-coefficient is above 0.
+It refuses: at the first pc of a routine, the potential has a constant above the budget, or
+a coefficient above 0.
 Example: 2 steps are required from the start of v14, and the budget is 1: the least budget
 is 2
 
@@ -540,10 +542,10 @@ refused 7 Locked
 the block is locked, or has 65,535 locks.
 
 refused 8 BadArray
-the chunk's bytes are no array, or one whose elements can't be resized.
+the chunk's bytes are no array, or an array whose elements can't be resized.
 
 refused 9 BadElement
-the array has no such element, or no such place for one.
+the index is too high for the array.
 
 refused 10 Full
 the output is full.
@@ -582,10 +584,10 @@ why 5 UsedTwice
 an earlier label, or routine, has the name.
 
 why 6 TooMany
-the 33rd routine, the 4,097th instruction; at line 1, a text that is too long.
+this is the 33rd routine or the 4,097th instruction; or, at line 1, the text is too long.
 
 why 7 OutOfPlace
-a second line `in` or `out` of a routine, or one that is not between `routine` and the first
-instruction. An instruction before any routine. A routine without instruction, at its first
-line. A label before `routine`, `in`, `out` or the end of the text, at its line. A text
-without routine, at line 1.";
+a line `in` or `out` is the second of its routine, or is not between `routine` and the first
+instruction. An instruction comes before any routine. A routine has no instruction (at its
+first line). A label comes before `routine`, `in`, `out` or the end of the text (at the
+label's line). A text has no routine (at line 1).";
