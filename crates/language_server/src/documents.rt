@@ -1,0 +1,60 @@
+//! The documents that an editor has open.
+
+use std::alloc::Global;
+
+/// The most documents that are kept, and the most bytes of each.
+pub(crate) const MOST_DOCUMENTS: usize = 256;
+
+pub(crate) const MOST_BYTES: usize = 1_048_576;
+
+/// A document.
+#[derive(Drop)]
+pub(crate) struct Document {
+    /// Its name.
+    pub(crate) uri: String,
+    /// Its text as the editor has it.
+    pub(crate) text: String,
+}
+
+impl Document {
+    /// Whether it is a source of the structured language, which the ending of its name tells.
+    pub(crate) fn is_source(&self) -> bool {
+        self.uri.ends_with(".tkv")
+    }
+}
+
+/// The documents that are open.
+#[derive(Drop)]
+pub(crate) struct Documents {
+    open: Vec<Document>,
+}
+
+impl Documents {
+    /// None.
+    pub(crate) fn new(alloc: Global) -> Documents {
+        Documents {
+            open: Vec::new(alloc),
+        }
+    }
+
+    /// The document with the name, if it is open.
+    pub(crate) fn find(&self, uri: &str) -> Option<&Document> {
+        self.open
+            .iter()
+            .find(|document| document.uri.as_str() == uri)
+    }
+
+    /// Forgets the document with the name.
+    pub(crate) fn close(&mut self, uri: &str) {
+        self.open.retain(|document| document.uri.as_str() != uri)
+    }
+
+    /// Keeps a document in the place of one with its name. It is not kept if as many are open as may be.
+    pub(crate) fn keep(&mut self, document: Document) {
+        self.close(&document.uri);
+        if self.open.len() < MOST_DOCUMENTS {
+            // A document for which there is no memory is not open.
+            let _ = self.open.push(document);
+        }
+    }
+}
