@@ -1,11 +1,74 @@
-//! What is wrong with the bad lines of a script that was not run.
+//! What is wrong with the bad lines of a script that was not run, and which of its calls are probably not meant.
 
 use crate::fault::RunFault;
 use crate::manner::Manner;
 use geos_cli::ScriptFault;
+use geos_image::ReadError;
+use geos_json::JsonLines;
+use geos_lints::{DoubtfulCall, DoubtfulCalls, doubtful_calls};
 use geos_scripts::diagnose_bad_lines;
-use geos_shell::Named;
+use geos_shell::{Named, print, tell};
+use geos_verify::check;
+use json_findings::{Finding, Severity, put_finding, put_more};
 use std::alloc::{AllocError, Global};
+
+/// Writes the warning about a call of the script with the path as an object.
+fn put_doubtful(
+    alloc: Global,
+    out: &mut JsonLines,
+    path: &str,
+    call: &DoubtfulCall,
+) -> Result<(), AllocError> {
+    put_finding(
+        alloc,
+        out,
+        &Finding {
+            marks: None,
+            severity: Severity::Warning,
+            file: path,
+            line: Some(call.line as u64),
+            column: None,
+            at: None,
+            cause: None,
+            cure: Some(&call.advice.cure),
+            message: &call.advice.sentence(alloc)?,
+        },
+    )
+}
+
+/// Warnings about calls of the script with the path, as objects.
+fn warning_objects(
+    alloc: Global,
+    path: &str,
+    calls: &DoubtfulCalls,
+) -> Result<Vec<u8>, AllocError> {
+    let mut out = JsonLines::new(alloc);
+    for call in &calls.list {
+        put_doubtful(alloc, &mut out, path, call)?;
+    }
+    put_more(&mut out, path, calls.more as u64);
+    out.finish()
+}
+
+/// The same as lines `FILE:LINE: warning: ..`.
+fn warning_lines(alloc: Global, path: &str, calls: &DoubtfulCalls) -> Result<Vec<u8>, AllocError> {
+    let path = Named(path);
+    let file = format!(in alloc; "{path}")?;
+    let mut told = Vec::new(alloc);
+    for call in &calls.list {
+        let line = call.line;
+        let front = format!(in alloc; "{file}:{line}: warning: ")?;
+        told.extend_from_slice(front.as_bytes())?;
+        told.extend_from_slice(&call.advice.sentence(alloc)?)?;
+        told.push(b'\n')?;
+    }
+    let more = calls.more;
+    if more > 0 {
+        let rest = format!(in alloc; "{file}: note: and {more} more warnings\n")?;
+        told.extend_from_slice(rest.as_bytes())?;
+    }
+    Ok(told)
+}
 
 /// A script that is run with an image.
 #[derive(Clone, Copy)]
@@ -18,6 +81,36 @@ pub(crate) struct Script<'s> {
 }
 
 impl Script<'_> {
+    /// Its calls that are probably not meant; none if the verifier refuses the image.
+    fn doubtful_calls(&self, alloc: Global) -> Result<DoubtfulCalls, ReadError> {
+        match check(geos_image::read(alloc, self.image)?) {
+            Ok(checked) => Ok(doubtful_calls(alloc, checked.image(), self.bytes)?),
+            Err(_) => Ok(DoubtfulCalls {
+                list: Vec::new(alloc),
+                more: 0,
+            }),
+        }
+    }
+
+    /// Warns of its calls that are probably not meant, if that is required. Nothing if there is no memory for it.
+    pub(crate) fn warn(&self, rt: &HostRuntime, manner: &Manner) {
+        if !manner.warns {
+            return;
+        }
+        let alloc = rt.alloc();
+        let Ok(calls) = self.doubtful_calls(alloc) else {
+            return;
+        };
+        if !manner.json {
+            if let Ok(told) = warning_lines(alloc, self.path, &calls) {
+                tell(rt, &told);
+            }
+        } else if let Ok(objects) = warning_objects(alloc, self.path, &calls) {
+            // If the standard output fails, what follows reports it.
+            let _ = print(rt, &objects);
+        }
+    }
+
     /// Diagnostics on its bad lines. If a line is bad only with the words that its names have in the run, only this line is named.
     fn diagnostics(
         &self,

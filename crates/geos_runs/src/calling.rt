@@ -49,31 +49,30 @@ impl<'a> Job<'_, 'a> {
     ) -> Result<(), RunFault<'a>>
         requires { NoneLocked kernel.old.core.blocks }
     {
+        kernel.limit(self.manner.most_bytes);
         match &self.work {
             Work::Call(call) => run_call_on(rt, self.manner, self.image, call, kernel),
             Work::Script(path, bytes) => {
+                self.script(path, bytes).warn(rt, self.manner);
                 match run_script_on(rt, self.manner, self.image, bytes, kernel) {
                     Ok(()) => Ok(()),
-                    Err(fault) => Err(self.diagnosed(rt, path, bytes, fault)),
+                    // What is wrong with its bad lines, if that is required.
+                    Err(fault) => {
+                        let script = self.script(path, bytes);
+                        Err(script.diagnosed(rt.alloc(), self.manner, fault))
+                    }
                 }
             }
         }
     }
 
-    /// The fault of the script, with what is wrong with its bad lines, if that is required.
-    fn diagnosed(
-        &self,
-        rt: &HostRuntime,
-        path: &str,
-        bytes: &[u8],
-        fault: RunFault<'a>,
-    ) -> RunFault<'a> {
-        let script = Script {
+    /// The script of a path.
+    fn script<'s>(&'s self, path: &'s str, bytes: &'s [u8]) -> Script<'s> {
+        Script {
             path,
             bytes,
             image: self.image,
-        };
-        script.diagnosed(rt.alloc(), self.manner, fault)
+        }
     }
 
     /// Runs it on a new VM file in memory, with so many bytes for blocks in memory.

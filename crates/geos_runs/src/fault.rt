@@ -37,9 +37,12 @@ pub enum RunFault<'a> {
     /// What a call gives as this word is no number that the word may be.
     #[error("bad call: w{} can't be {}", .0, Named(.1))]
     BadNumber(usize, &'a str),
-    /// A call of a routine that borrows so many blocks gives more or fewer, or none by its handle.
-    #[error("bad call: {} borrows blocks: {}, each as @ and its handle behind the numbers", Named(.0), .1)]
-    BadBlocks(&'a str, usize),
+    /// A call of a routine that borrows so many blocks gives so many.
+    #[error("bad call: {} borrows blocks: {}, and the call has {}, each as @ and its handle after the numbers", Named(.0), .1, .2)]
+    BadBlocks(&'a str, usize, usize),
+    /// What a call gives in place of a block is none.
+    #[error("bad call: a block can't be {}: it is @ and a handle up to 65535", Named(.0))]
+    BadBlock(&'a str),
     /// A call gives a ninth number.
     #[error("bad call: more than eight numbers")]
     TooManyNumbers,

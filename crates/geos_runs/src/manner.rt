@@ -23,13 +23,17 @@ pub struct Manner {
     pub mode: Mode,
     /// Whether its lines may write names for words that calls output.
     pub names: NameUse,
+    /// How many bytes more than before the blocks in memory may have.
+    pub most_bytes: u32,
     /// How outputs are written.
     pub form: OutputForm,
     /// What is committed at the end of a run on a file.
     pub commit: Option<EndCommit>,
     /// Whether changed blocks of a file that no commit has written are reported.
     pub wants_notes: bool,
-    /// Whether outputs and notes are JSON objects.
+    /// Whether it is warned of calls of a script that are probably not meant.
+    pub warns: bool,
+    /// Whether outputs, notes and warnings are JSON objects.
     pub json: bool,
 }
 
@@ -148,11 +152,37 @@ fn run_call_in<W: Write, D: Device + Drop>(
     run_call_in_form(alloc, form_of(form), image, name, words, kernel, out)
 }
 
+/// Whether a word of a call is `@` and a handle.
+fn is_block(word: &str) -> bool {
+    match word.strip_prefix("@") {
+        Some(handle) => {
+            handle.parse::<u16>().is_ok() && handle.bytes().all(|byte| byte.is_ascii_digit())
+        }
+        None => false,
+    }
+}
+
+/// The fault of a call of a routine that borrows so many blocks: the first word in place of a block that is none, or how many blocks there
+/// are. The first block begins with `@`.
+fn blocks_fault<'a>(call: &CallWords<'a>, borrowed: usize) -> RunFault<'a> {
+    let mut given: usize = 0;
+    for word in &call.words {
+        let begins = word.starts_with('@');
+        if (begins || given > 0) && !is_block(*word) {
+            return RunFault::BadBlock(*word);
+        }
+        if begins {
+            given = given.saturating_add(1);
+        }
+    }
+    RunFault::BadBlocks(call.name, borrowed, given)
+}
+
 /// The fault of a call, by what is wrong.
 pub(crate) fn call_fault<'a>(call: &CallWords<'a>, fault: CallFault) -> RunFault<'a> {
     match fault {
         CallFault::Script(fault) => RunFault::Session(fault),
-        CallFault::BadBlocks(count) => RunFault::BadBlocks(call.name, count),
+        CallFault::BadBlocks(count) => blocks_fault(call, count),
         CallFault::BadWord(0) => RunFault::NoRoutine(call.name),
         CallFault::BadWord(word) => match call.words.get(word - 1) {
             Some(number) if word <= 8 => RunFault::BadNumber(word - 1, *number),

@@ -27,6 +27,8 @@ pub struct Traceable<'a> {
     pub origins: Option<&'a [Origin<'a>]>,
     /// What a page shows of them, if one is required.
     pub shown: Option<Shown<'a>>,
+    /// How many bytes more than before the blocks in memory may have.
+    pub most_bytes: u32,
     /// Whether JSON objects are printed.
     pub json: bool,
 }
@@ -97,6 +99,7 @@ fn trace_on<'a, D: Device + Drop>(
 ) -> Result<(), RunFault<'a>>
     requires { NoneLocked kernel.old.core.blocks }
 {
+    kernel.limit(traceable.most_bytes);
     if let (Some(shown), Some(path)) = (&traceable.shown, words.page) {
         return page_on(rt, words, traceable, shown, path, kernel);
     }
