@@ -3,13 +3,9 @@
 use geos_json::JsonLines;
 use geos_lints::Advice;
 use geos_shell::{Diagnosed, Reported, Reports, StreamFault, done_or_reported, print};
-use geos_texts::{FaultySource, Runnable, TextFault, assemble, assemble_all};
-use geos_verify::Reject;
-use json_findings::{
-    Finding, MarkedText, Severity, Source, put_finding, put_judged, put_why_no_image,
-};
-use line_marks::LineMarks;
-use std::alloc::{AllocError, Global};
+use geos_texts::{Runnable, TextFault, assemble, assemble_all};
+use json_findings::{Finding, Severity, put_finding};
+use language_server::{Judged, Wanted, put_read};
 use std::fmt::Display;
 
 /// Prints objects.
@@ -56,29 +52,6 @@ pub(crate) fn print_end(rt: &HostRuntime, status: u64) -> Result<(), StreamFault
     print_objects(rt, objects)
 }
 
-/// The fault of a source.
-fn put_source(
-    alloc: Global,
-    out: &mut JsonLines,
-    fault: &FaultySource<'_>,
-) -> Result<(), AllocError> {
-    put_finding(
-        alloc,
-        out,
-        &Finding {
-            marks: None,
-            severity: Severity::Error,
-            file: fault.path,
-            line: Some(fault.line as u64),
-            column: Some(fault.column as u64),
-            at: None,
-            cause: None,
-            cure: None,
-            message: &fault.sentence,
-        },
-    )
-}
-
 /// Prints a warning about the file with the path.
 pub(crate) fn print_warning(rt: &HostRuntime, path: &str, advice: &Advice) {
     let Ok(message) = advice.sentence(rt.alloc()) else {
@@ -102,47 +75,6 @@ pub(crate) fn print_warning(rt: &HostRuntime, path: &str, advice: &Advice) {
     }
 }
 
-/// The line marks of a text, if it has some.
-fn marks_of(marks: &LineMarks) -> Option<&LineMarks> {
-    if marks.is_empty() { None } else { Some(marks) }
-}
-
-/// Why a text or an image was not read.
-fn put_fault(alloc: Global, out: &mut JsonLines, fault: &TextFault<'_>) -> Result<(), AllocError> {
-    match fault {
-        TextFault::Assemble(text) => put_why_no_image(
-            alloc,
-            out,
-            MarkedText {
-                file: text.path,
-                text: &text.text,
-                marks: marks_of(&text.marks),
-            },
-        ),
-        TextFault::Source(source) => put_source(alloc, out, source),
-        _ => Ok(()),
-    }
-}
-
-/// An image that was read, and its first refusal.
-#[derive(Drop)]
-struct Judged<'a> {
-    image: Runnable<'a>,
-    reject: Option<Reject>,
-}
-
-/// An image that was read, as a source of findings.
-fn source_of<'t>(image: &'t Runnable<'_>, reports: Reports, effects: bool) -> Source<'t, 't> {
-    Source {
-        file: image.path,
-        text: &image.text,
-        lines: image.lines().unwrap_or(&[]),
-        marks: marks_of(&image.marks),
-        warns: reports.warnings,
-        effects,
-    }
-}
-
 /// Prints what is found in an image that was read, or why none was, and returns the image and its first refusal.
 fn told<'a>(
     rt: &HostRuntime,
@@ -150,22 +82,14 @@ fn told<'a>(
     read: Result<Runnable<'a>, TextFault<'a>>,
     effects: bool,
 ) -> Result<Judged<'a>, TextFault<'a>> {
-    let alloc = rt.alloc();
-    let mut out = JsonLines::new(alloc);
-    match read {
-        Ok(image) => {
-            let source = source_of(&image, reports, effects);
-            let reject = put_judged(alloc, &mut out, &source, &image.image)?;
-            print_objects(rt, out)?;
-            Ok(Judged { image, reject })
-        }
-        Err(fault) => {
-            if put_fault(alloc, &mut out, &fault).is_ok() {
-                print_objects(rt, out)?;
-            }
-            Err(fault)
-        }
-    }
+    let wanted = Wanted {
+        warnings: reports.warnings,
+        effects,
+    };
+    let mut out = JsonLines::new(rt.alloc());
+    let judged = put_read(rt.alloc(), &mut out, read, wanted);
+    print_objects(rt, out)?;
+    judged
 }
 
 /// Reads what a path names, as `Runnable::read`, and prints what is found in it.

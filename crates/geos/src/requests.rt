@@ -14,13 +14,15 @@ use geos_runs::{
 use geos_scripts::NameUse;
 use geos_shell::{
     CallWords, EndCommit, FileRequest, OutputForm, Reported, Reports, Request, RoutineRequest,
-    RunLimits, TestRequest, TextRequest, tell,
+    RunLimits, TestRequest, TextRequest, report, tell,
 };
 use geos_texts::{
     KnownLines, Limited, Limits, Runnable, TextFault, assemble, assemble_all, budget, check,
     explain, explain_script, format, known_lines, list, read_and_warn, tell_warning,
 };
+use language_server::{ServeFault, serve};
 use line_marks::Origin;
+use std::io::{self, BufReader};
 
 /// What a script does after a refused command.
 fn mode_of(strict: bool) -> Mode {
@@ -87,7 +89,7 @@ fn limited<'a>(
     done(rt, reports, Limited::new(rt.alloc(), routines, limits))
 }
 
-/// How a script or a call is run.
+/// How a script or a call is run, with as many bytes as it asks for.
 fn manner_of(
     reports: Reports,
     strict: bool,
@@ -98,9 +100,11 @@ fn manner_of(
     Manner {
         mode: mode_of(strict),
         names,
+        most_bytes: u32::MAX,
         form,
         commit,
         wants_notes: reports.diagnostics || reports.json,
+        warns: reports.warnings,
         json: reports.json,
     }
 }
@@ -139,9 +143,10 @@ fn known_of<'t>(
 /// What is traced of routines, and what a page shows of them, if their lines are known for one.
 fn traceable_of<'t>(
     reports: Reports,
-    routines: &'t Runnable<'_>,
+    kept: &'t Limited<'_>,
     known: &'t Known<'_>,
 ) -> Traceable<'t> {
+    let routines = &kept.routines;
     let shown = match &known.page {
         Some(known) => Some(Shown {
             path: routines.path,
@@ -158,6 +163,7 @@ fn traceable_of<'t>(
         image: &routines.image,
         origins,
         shown,
+        most_bytes: kept.limits.most_bytes,
         json: reports.json,
     }
 }
@@ -248,7 +254,7 @@ fn run_routines<'a>(
         return done(rt, reports, session(rt));
     };
     let kept = limited(rt, reports, named.image, named.called, limits)?;
-    run_limited(rt, reports, request, &named, &kept.routines)
+    run_limited(rt, reports, request, &named, &kept)
 }
 
 /// Runs routines that keep to the limits.
@@ -257,13 +263,14 @@ fn run_limited<'a>(
     reports: Reports,
     request: RoutineRequest<'a>,
     named: &Named<'a>,
-    routines: &Runnable<'_>,
+    kept: &Limited<'_>,
 ) -> Result<(), Reported>
     requires { RunsWithinLimits request }
 {
-    warn_of(rt, reports, &*routines, named);
-    let known = known_of(rt, reports, &*routines, named)?;
-    let end = run_on(rt, reports, request, &*routines, &known);
+    let routines = &kept.routines;
+    warn_of(rt, reports, routines, named);
+    let known = known_of(rt, reports, routines, named)?;
+    let end = run_on(rt, reports, request, kept, &known);
     ran(rt, reports, end, routines)
 }
 
@@ -272,12 +279,13 @@ fn run_on<'a, 't>(
     rt: &HostRuntime,
     reports: Reports,
     request: RoutineRequest<'a>,
-    routines: &'t Runnable<'_>,
+    kept: &'t Limited<'_>,
     known: &'t Known<'_>,
 ) -> Result<(), RunFault<'a>>
     requires { RunsWithinLimits request }
 {
-    let image = &routines.image;
+    let image = &kept.routines.image;
+    let most_bytes = kept.limits.most_bytes;
     match request {
         RoutineRequest::Session => session(rt),
         RoutineRequest::Call {
@@ -289,7 +297,10 @@ fn run_on<'a, 't>(
             commit,
             ..
         } => {
-            let manner = manner_of(reports, strict, NameUse::Allowed, form, commit);
+            let manner = Manner {
+                most_bytes,
+                ..manner_of(reports, strict, NameUse::Allowed, form, commit)
+            };
             run_call(rt, &manner, image, call, file, region)
         }
         RoutineRequest::Trace {
@@ -298,7 +309,7 @@ fn run_on<'a, 't>(
             region,
             ..
         } => {
-            let traceable = traceable_of(reports, routines, known);
+            let traceable = traceable_of(reports, kept, known);
             trace(rt, &traceable, &words, file, region)
         }
         RoutineRequest::Run {
@@ -311,7 +322,10 @@ fn run_on<'a, 't>(
             commit,
             ..
         } => {
-            let manner = manner_of(reports, strict, use_of(names), form, commit);
+            let manner = Manner {
+                most_bytes,
+                ..manner_of(reports, strict, use_of(names), form, commit)
+            };
             run(rt, &manner, image, file, script, region)
         }
     }
@@ -401,6 +415,23 @@ fn work_on_file(
     }
 }
 
+/// Serves an editor on the standard streams.
+fn serve_editor(rt: &HostRuntime) -> Result<(), Reported> {
+    let served = match BufReader::new(rt.alloc(), rt.stdin()) {
+        Ok(mut input) => serve(rt.alloc(), &mut input, &mut io::writer(rt)),
+        Err(error) => Err(ServeFault::Stream(error)),
+    };
+    match served {
+        // The protocol asks for status 1 if an editor ends the server without `shutdown`.
+        Ok(true) => Ok(()),
+        Ok(false) => Err(Reported),
+        Err(fault) => {
+            report(rt, &fault);
+            Err(Reported)
+        }
+    }
+}
+
 /// Carries out a request. A fault is reported on standard error, with diagnostics if they are required. `limits` are tested before `call`,
 /// `run` and `trace` run anything.
 pub(crate) fn carry_out(
@@ -419,5 +450,6 @@ pub(crate) fn carry_out(
         }
         Request::Text(request) => { done(rt, reports, work_on_text(rt, reports, request)) }
         Request::File(request) => work_on_file(rt, reports, request),
+        Request::Serve => serve_editor(rt),
     }
 }
