@@ -161,6 +161,11 @@ uint32_t takhvoi_close(takhvoi_kernel *kernel);
 /* 0 where a commit has failed in a way that leaves two states possible: then no other is taken, and the file is to be opened again. */
 TAKHVOI_CALL uint32_t takhvoi_is_sure(takhvoi_kernel *kernel, uint16_t *sure);
 
+/* Lets all blocks in memory together have `more` bytes more than they have, at most the whole region, until the next such call; a number as large
+ * as the region takes the limit away. What would be more is refused with TAKHVOI_NO_ROOM, in a run too, after blocks of the file were evicted
+ * that are neither locked nor marked. So a run never takes more. */
+TAKHVOI_CALL uint32_t takhvoi_limit(takhvoi_kernel *kernel, uint32_t more);
+
 /* Blocks of memory. One that is not locked may move, which C never sees. */
 TAKHVOI_CALL uint32_t takhvoi_mnew(takhvoi_kernel *kernel, uint16_t *handle);
 TAKHVOI_CALL uint32_t takhvoi_mlock(takhvoi_kernel *kernel, uint16_t handle);

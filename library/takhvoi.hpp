@@ -397,6 +397,9 @@ public:
         return flag([&](std::uint16_t *sure) { return takhvoi_is_sure(get(), sure); });
     }
 
+    /// Lets all blocks in memory together have `more` bytes more than they have, at most the whole region, until the next such call.
+    Result<void> limit(std::uint32_t more) { return detail::ended(takhvoi_limit(get(), more)); }
+
     /// Loads an image, which the verifier checks. The fault's place is the offset of the first faulty byte (TAKHVOI_BAD_IMAGE), or the first
     /// instruction that its rule refuses (TAKHVOI_REFUSED).
     Result<Image> load(Bytes image) & {

@@ -43,6 +43,7 @@ void locks(Kernel &kernel) {
     kernel = std::move(moved);
     { const LockedBlock last = std::move(block); }
     check(kernel.free(name).has_value(), "a block is freed");
+    check(kernel.limit(0) && kernel.make_block().status() == TAKHVOI_NO_ROOM && kernel.limit(UINT32_MAX), "a limit on memory");
 }
 
 void bytes(Kernel &kernel) {

@@ -91,7 +91,7 @@ _KERNEL, _BYTES, _ROOM = ctypes.POINTER(RawFile), ctypes.c_char_p, ctypes.POINTE
 _CALLS = {
     (): "file_close file_update file_save file_revert",
     (U16,): "mlock mfree vlock vdirty vfree vsetmap gfree",
-    (U32,): "unlock lcontract unload",
+    (U32,): "limit unlock lcontract unload",
     (_OUT16,): "is_sure mnew vgetmap gnew",
     (U16, U16): "ifree isetmap",
     (U16, _OUT16): "marked vnew vuid",

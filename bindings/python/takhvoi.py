@@ -253,6 +253,10 @@ class Kernel:
         """Whether the VM file is sure of what it keeps. Where it is not, it takes no commit, and is opened again."""
         return self._told("is_sure") != 0
 
+    def limit(self, more: int) -> None:
+        """Lets all blocks in memory together have `more` bytes more than they have, at most the whole region, until the next such call."""
+        self._call("limit", U32(min(more, 0xFFFFFFFF)))
+
     def load(self, image: Data, grants: Effect = Effect.ALL) -> Image:
         """Loads an image, which the verifier checks. Its public routines do only what has its bit in `grants`: else the Error has the routine and
         the effect."""

@@ -104,6 +104,18 @@ class Blocks(unittest.TestCase):
         self.assertEqual((kernel.find(5), kernel.map_block(), kernel.user_id(block.handle)), (block.handle, block.handle, 5))
         self.assertTrue(kernel.is_sure())
 
+    def test_memory_is_limited(self) -> None:
+        kernel = self.kernel
+        with kernel.make_block() as block:
+            kernel.limit(64)
+            with kernel.make_block():
+                with self.refuses(4):
+                    block.make_chunk(984)
+                with self.refuses(4):
+                    kernel.make_block()
+            kernel.limit(2**40)
+            block.make_chunk(984)
+
     def test_items_change(self) -> None:
         kernel = self.kernel
         group = kernel.make_group()
@@ -166,6 +178,10 @@ class Blocks(unittest.TestCase):
         self.assertIn("RET", said.text)
         self.assertEqual((said.line, said.column), (None, None))
         self.assertEqual(takhvoi.explain_text("routine f public budget 1\n ldi w0 5\n")[1:], (2, 2))
+        callee = "routine f budget 65535\n RET\n"
+        said = takhvoi.explain_text(callee + "routine g public budget 90\n SETK k0 65535\n JMP b\na: BEQ w0 w1 b\n CALL f\nb: LOOP k0 a\n RET\n")
+        self.assertIn("CALL f at line 7 pays its budget", said.text)
+        self.assertEqual(said.line, 3)
         for call, number, place in (
             (lambda: takhvoi.assemble("routine f public budget x"), 112, 1),
             (lambda: takhvoi.assemble("\nroutine f public budget 9\nagain:\n JMP again\n"), 113, 2),

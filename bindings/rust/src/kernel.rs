@@ -288,6 +288,12 @@ impl Kernel {
         told(|sure| unsafe { raw::takhvoi_is_sure(self.raw(), sure) }).map(|sure| sure != 0)
     }
 
+    /// Lets all blocks in memory together have `more` bytes more than they have, at most the whole region, until the next such call. What would
+    /// be more is refused, in a run too, as if the region had no room.
+    pub fn limit(&self, more: u32) -> Result<()> {
+        done(unsafe { raw::takhvoi_limit(self.raw(), more) })
+    }
+
     /// Commits what has changed; a revert takes it back until the next save. It happens whole or not at all.
     pub fn update(&mut self) -> Result<()> {
         self.parts().1.update()

@@ -38,6 +38,7 @@ extern "C" {
     pub fn takhvoi_open(kernel: *mut RawKernel, bytes: *const u8, len: usize, region: u32, fault: *mut u64) -> u32;
     pub fn takhvoi_close(kernel: *mut RawKernel) -> u32;
     pub fn takhvoi_is_sure(kernel: *mut RawKernel, sure: *mut u16) -> u32;
+    pub fn takhvoi_limit(kernel: *mut RawKernel, more: u32) -> u32;
     pub fn takhvoi_mnew(kernel: *mut RawKernel, handle: *mut u16) -> u32;
     pub fn takhvoi_mlock(kernel: *mut RawKernel, handle: u16) -> u32;
     pub fn takhvoi_mfree(kernel: *mut RawKernel, handle: u16) -> u32;

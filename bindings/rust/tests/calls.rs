@@ -31,6 +31,20 @@ fn blocks_are_locked_at_once() -> Result<()> {
 }
 
 #[test]
+fn memory_is_limited() -> Result<()> {
+    let kernel = kernel();
+    let mut block = kernel.make_block()?;
+    kernel.limit(64)?;
+    let other = kernel.make_block()?;
+    assert_eq!(kernel.make_block().err(), Some(Error::NoRoom));
+    assert_eq!(block.mark()?.make_chunk(984).err(), Some(Error::NoRoom));
+    drop(other);
+    kernel.limit(u32::MAX)?;
+    block.mark()?.make_chunk(984)?;
+    Ok(())
+}
+
+#[test]
 fn a_commit_leaves_locks_of_memory() -> Result<()> {
     let mut kernel = kernel();
     let (memory, mut file) = kernel.parts();

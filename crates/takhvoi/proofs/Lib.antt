@@ -1,6 +1,7 @@
 pub mod Calling
 pub mod Found
 pub mod Grouped
+pub mod Lines
 pub mod Looking
 pub mod Named
 pub mod Notes

@@ -1,5 +1,5 @@
 -- The results of calls on texts and images.
-use Rattle.std.specs.Prelude.{◌≡◌, ◌<◌, ◌≤◌, ◌⊎◌, ℕ, true, List, length, Ok, slice_index_or}
+use Rattle.std.specs.Prelude.{◌≡◌, ◌<◌, ◌≤◌, ◌-◌, ◌⊎◌, ℕ, true, List, length, Ok, Some, slice_get, slice_index_or}
 use Rattle.lmem_raw.specs.Bytes.{with_part}
 use Rattle.geos_image.specs.Parts.{Parts}
 use Rattle.geos_image.specs.Reading.{image_at}
@@ -41,9 +41,13 @@ HasFaultAt text line = (bad : fault.BadLine) × IsWhyNoImage text (BadLine bad) 
 abbrev pub IsListedAs : List ℕ → List ℕ → Type 0
 IsListedAs bytes text = (image : Parts) × (image_at bytes ≡ Ok image) × (text ≡ listing image)
 
--- the bytes spell an image, of which a text says something
+-- the text ends with a line feed
+abbrev pub EndsLine : List ℕ → Type 0
+EndsLine text = slice_get text (length text - 1) ≡ Some 10
+
+-- the bytes encode an image, and the text is of whole lines, one at least
 abbrev pub IsExplained : List ℕ → List ℕ → Type 0
-IsExplained bytes text = (image : Parts) × (image_at bytes ≡ Ok image)
+IsExplained bytes text = (image : Parts) × (image_at bytes ≡ Ok image) × EndsLine text
 
 -- the verifier accepts an image of the text
 abbrev pub IsAccepted : List ℕ → Type 0
@@ -59,3 +63,7 @@ IsRefusedAt text line = (image : Parts) × (reject : Reject) × IsAssembled text
 abbrev pub IsJudged : List ℕ → ℕ → Type 0
 IsJudged text line =
     ((line ≡ 0) × IsAccepted text) ⊎ (HasFaultAt text line ⊎ (HasNoRows text line ⊎ IsRefusedAt text line))
+
+-- the explanation is of whole lines, one at least, and the line is that of the text's first fault or refusal
+abbrev pub IsExplainedText : List ℕ → ℕ → List ℕ → Type 0
+IsExplainedText text line explanation = EndsLine explanation × IsJudged text line

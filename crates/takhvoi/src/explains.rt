@@ -1,27 +1,55 @@
 //! Explanations of images and texts.
 
-ghost use Rattle.std.specs.Prelude.{◌≡◌, ◌<◌, ◌⊎◌, Err, IfOk, length, slice_index_or};
+ghost use Rattle.std.specs.Prelude.{◌≡◌, ◌<◌, ◌⊎◌, Err, IfOk, IsTrue, length, slice_index_or};
 ghost use Rattle.geos_asm.specs.Assembling.{IsAssembled};
 ghost use Rattle.geos_image.specs.Reading.{image_at};
 ghost use Rattle.geos_source.specs.InstrLines.{instr_lines};
-ghost use Rattle.takhvoi.specs.Texts.{Gives, GivesOrTells, IsExplained, IsJudged, IsLonger};
+ghost use Rattle.takhvoi.specs.Texts.{EndsLine, Gives, GivesOrTells, IsExplained, IsExplainedText, IsJudged, IsLonger};
 
 use crate::status::{BAD_IMAGE, NO_MEMORY};
 use crate::texts::give;
 use geos_asm::{Assembled, Unassembled, assemble_or_tell};
+use geos_causes::Cause;
 use geos_explain::{explain, explain_cause, explain_text};
 use geos_image::{Image, ReadError};
-use geos_lines::tell_faults;
+use geos_lines::{tell_faults, tell_many_steps};
+use geos_source::Parsed;
 use geos_text::first_line;
 use geos_verify::{check, refused_places};
 use std::alloc::{AllocError, Global};
 
-/// The explanation of an image.
-fn explained(alloc: Global, image: Image) -> Result<Vec<u8>, AllocError> {
-    match check(image) {
-        Ok(checked) => explain(alloc, checked.image(), &[]),
-        Err((image, _reject)) => explain(alloc, &image, &refused_places(&image)),
+/// Whether a text ends with a line feed.
+fn ends_line(text: &[u8]) -> bool
+    ensures { IsTrue result → EndsLine text.now }
+{
+    match text.last() {
+        Some(byte) => *byte == b'\n',
+        None => false,
     }
+}
+
+/// The text, with a line feed at its end.
+#[tactic(auto, using(crate::proofs::Lines::fed))]
+fn with_end(text: Vec<u8>) -> Result<Vec<u8>, AllocError>
+    ensures { IfOk result (λ ended. EndsLine ended.items) }
+{
+    if ends_line(&text) {
+        return Ok(text);
+    }
+    let mut text = text;
+    text.push(b'\n')?;
+    Ok(text)
+}
+
+/// The explanation of an image.
+fn explained(alloc: Global, image: Image) -> Result<Vec<u8>, AllocError>
+    ensures { IfOk result (λ text. EndsLine text.items) }
+{
+    let text = match check(image) {
+        Ok(checked) => explain(alloc, checked.image(), &[])?,
+        Err((image, _reject)) => explain(alloc, &image, &refused_places(&image))?,
+    };
+    with_end(text)
 }
 
 /// The listing of an image with what is known at each instruction, and if it is refused, why. `told` as for `takhvoi_list`.
@@ -115,6 +143,19 @@ fn of_assembled(alloc: Global, text: &[u8], assembled: Assembled) -> Result<Said
     }
 }
 
+/// Why no rows are found for the routine of a text that begins on a line.
+fn why_no_rows(
+    alloc: Global,
+    line: usize,
+    cause: &Cause,
+    parsed: &Parsed,
+) -> Result<Vec<u8>, AllocError> {
+    match tell_many_steps(alloc, parsed, line, cause)? {
+        Some(told) => Ok(told),
+        None => explain_cause(alloc, &parsed.lines, &parsed.instrs, cause),
+    }
+}
+
 /// The explanation of a text.
 fn of_text(alloc: Global, text: &[u8]) -> Result<Said, AllocError>
     ensures { IfOk result (λ said. IsJudged text.now said.line) }
@@ -131,7 +172,7 @@ fn of_text(alloc: Global, text: &[u8]) -> Result<Said, AllocError>
             })
         }
         Err(Unassembled::NoRows(line, cause, parsed)) => Ok(Said {
-            text: explain_cause(alloc, &parsed.lines, &parsed.instrs, &cause)?,
+            text: why_no_rows(alloc, line, &cause, &parsed)?,
             line: line as u64,
             column: 0,
         }),
@@ -151,16 +192,19 @@ pub extern "C" fn takhvoi_explain_text(
     line: &mut u64,
     column: &mut u64,
 ) -> u32
-    ensures explained { result ≡ 0 → Gives (λ _. IsJudged text.now line.new) told.new into.old into.new }
+    ensures explained { result ≡ 0 → Gives (IsExplainedText text.now line.new) told.new into.old into.new }
     ensures kept { (result ≡ 0 → ⊥) → into.new ≡ into.old }
-    ensures short { result ≡ 115 → IsLonger (λ _. IsJudged text.now line.new) told.new (length into.old) }
+    ensures short { result ≡ 115 → IsLonger (IsExplainedText text.now line.new) told.new (length into.old) }
     ensures own { (result ≡ 0) ⊎ ((result ≡ 111) ⊎ (result ≡ 115)) }
 {
     match of_text(alloc, text) {
         Ok(said) => {
             *line = said.line;
             *column = said.column;
-            give(&said.text, into, told)
+            match with_end(said.text) {
+                Ok(explanation) => give(&explanation, into, told),
+                Err(_) => NO_MEMORY,
+            }
         }
         Err(_) => NO_MEMORY,
     }

@@ -3,7 +3,7 @@
 ghost use Rattle.std.specs.Prelude.{◌≡◌, ◌≢◌, ◌⊎◌, ◌≤◌, Err, [], false, true};
 ghost use Rattle.host_device.specs.Journal.{journal_of};
 ghost use Rattle.vm_file.specs.Reading.{file_at, is_area};
-ghost use Rattle.takhvoi.specs.Answers.{IsFlag, Looks, Served};
+ghost use Rattle.takhvoi.specs.Answers.{Done, IsFlag, Limits, Looks, Served};
 ghost use Rattle.takhvoi.specs.Own.{NoOwn};
 ghost use Rattle.takhvoi.specs.Starts.{Began, IsMade, IsNew, IsNoRegion, IsOpened, IsStarted};
 
@@ -165,6 +165,27 @@ pub extern "C" fn takhvoi_is_sure(alloc: Global, handle: &mut Handle, sure: &mut
     *sure = u16::from(system.kernel.is_sure());
     put(handle, system);
     DONE
+}
+
+fn limit(system: &mut System, more: u32) -> u32
+    ensures { Done NoOwn (Limits more) result system.old system.new }
+{
+    system.kernel.limit(more);
+    DONE
+}
+
+/// Lets all blocks in memory together have `more` bytes more than they have, at most the whole region, until the next such call. A large number
+/// takes the limit away. What would be more is refused with 4, after all blocks were evicted that may be.
+#[unsafe(no_mangle)]
+pub extern "C" fn takhvoi_limit(alloc: Global, handle: &mut Handle, more: u32) -> u32
+    ensures { Served NoOwn (Limits more) result handle.old handle.new }
+{
+    let Some(mut system) = take(alloc, handle) else {
+        return NO_KERNEL;
+    };
+    let status = limit(&mut system, more);
+    put(handle, system);
+    status
 }
 
 /// Frees the kernel of a handle. Changes that were not committed are lost.

@@ -55,7 +55,7 @@ no_device a = record { cache = record { bytes = no_vec a; failures = 0 }; log = 
 
 nothing_held : Global → System
 nothing_held a = record {
-  kernel = record { core = record { blocks = record { blocks = []; places = []; len = 0 }; vm = no_vm }; device = no_device a };
+  kernel = record { core = record { blocks = record { blocks = []; places = []; len = record { region = 0; most = 0 } }; vm = no_vm }; device = no_device a };
   machine = record { words = []; counters = []; slots = []; pointers = []; outcome = record { words = []; output = record { items = [] }; steps = 0 } };
   images = record { ptr = null_ptr; len = 0; cap = 0; alloc = a; items = []; ok = (refl, omega arith); small = omega arith };
   hosted = false;
