@@ -1,6 +1,6 @@
 # `make` builds geos, and prints its path. `make install` puts geos, its man pages, completions for bash, zsh and fish, and the documents below
-# PREFIX, all of it below DESTDIR if one is given. `make install-library` puts the library for C, C++, Rust and Python there. `make uninstall`
-# removes what these two have installed. `make dist` writes an archive and a Debian package into out/dist.
+# PREFIX, all of it below DESTDIR if one is given. `make install-library` puts the library for C, C++, Rust and Python there, and these
+# documents. `make uninstall` removes what these two have installed. `make dist` writes an archive and a Debian package into out/dist.
 PREFIX = /usr/local
 DESTDIR =
 # The program that is installed; if none is given, `./build geos` says which.
@@ -24,7 +24,7 @@ install:
 
 install-library:
 	@made=$$(mktemp -d) || exit; trap 'rm -rf "$$made"' EXIT; \
-	LIBRARY='$(LIBRARY)' library/install.sh "$$made" && \
+	LIBRARY='$(LIBRARY)' library/install.sh "$$made" && install/documents.sh "$$made" && \
 	install/place.sh "$$made" '$(root)' $(lists)/installed-library
 
 uninstall:
