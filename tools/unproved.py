@@ -37,7 +37,7 @@ OWN_LINE = re.compile(rb"(interpreter|checked|races): |run=|rt: ")
 # Names that `rt try` keeps for itself in the folder in which the program runs.
 TAKEN = ("program", "stdin", "stdout", "stderr", "given")
 # The options of `geos` with a word after them.
-WITH_WORD = ("--file", "--grant", "--html", "--most-steps", "--only", "--region", "--script", "--steps")
+WITH_WORD = ("--file", "--grant", "--html", "--most-bytes", "--most-steps", "--only", "--region", "--script", "--steps")
 # The options of `call`, `test` and `trace` that name a VM file, or a file that is written.
 NEEDS_PROOF = ("--file", "--html")
 # The options that may stand before the command.
@@ -101,7 +101,7 @@ class Request:
             return len(self.plain) > 1 and self.words[self.plain[1]] != "-"
         if self.command == "check":
             return any(is_vm_file(self.words[place]) for place in self.plain[:1])
-        return self.command in ("new", "copy", "run", "put", "get", "dump", "diff", "map")
+        return self.command in ("new", "copy", "run", "put", "get", "dump", "diff", "map", "lsp")
 
     def inputs(self) -> list[int]:
         """Where the words stand that name files to read."""
