@@ -28,6 +28,10 @@ said budget apart.asm --diagnostics
 said list nothing.asm --diagnostics
 said asm stale.asm nowhere/out --diagnostics
 "$program" new a.vm --area 512
+printf 'GRT1 is no image' >image
+said budget image --diagnostics
+printf '\377\376r\0' >utf16.asm
+said list utf16.asm --diagnostics
 said call a.vm f --diagnostics
 said dump stale.asm --diagnostics
 said --diagnostics dump stale.asm

@@ -10,3 +10,4 @@ while IFS= read -r name; do
     printf '%s: ' "$name"
     "$1" check "$folder/$(printf %02d $number).tkv" 2>&1 </dev/null
 done <"$folder/names"
+exit 0

@@ -7,7 +7,10 @@ run_make() {
 }
 run_make install-library
 run_make install-library
-(cd "$root" && find . ! -type d | sort)
+(cd "$root" && find . ! -type d ! -path './share/doc/takhvoi/*' | sort)
+for page in docs/EMBEDDING.md docs/INSTRUCTIONS.md docs/figures/host.svg examples/add.asm; do
+    cmp -s "$top/$page" "$root/share/doc/takhvoi/$page" || grep -qsF "$(head -n 1 "$top/$page")" "$root/share/doc/takhvoi/$page" || echo "no $page"
+done
 # A program that is linked with the shared library asks for the name with the number of the header.
 shared=libtakhvoi.so.$(sed -n 's/^#define TAKHVOI_ABI //p' takhvoi.h)
 cc -std=c99 -o shared -I"$root/include" "$top/library/book.c" -L"$root/lib" -ltakhvoi

@@ -22,6 +22,8 @@ routine f public budget 99
         CMP w0 w1
         MOV w0
         JMP
+        MUL w0 w0 w1
+        DIV w0 w0 w1
 end RET
 halt
 l:      RET

@@ -23,8 +23,8 @@ while not told.endswith(b"|"):
     told += os.read(ours, 1000)
 print("status", run.returncode, run.stdout.decode().strip(), told.decode().replace("\r\n", "."))
 END
-python3 typed.py 'call add 2 3' terminal "$program" call add.asm
-python3 typed.py 'call add 2 3' file "$program" call add.asm
+python3 typed.py 'call add' terminal "$program" call add.asm
+python3 typed.py 'call add' file "$program" call add.asm
 cat said
-echo 'call add 2 3' | "$program" call add.asm
+echo 'call add' | "$program" call add.asm
 python3 typed.py nothing terminal "$program" call add.asm add

@@ -22,6 +22,7 @@ call => 3
 update now
 call small 10 => 10
 call sum $x =>
+call sum 1 2 =>3
 END
 echo nonsense | tested silent
 

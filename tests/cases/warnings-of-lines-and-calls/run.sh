@@ -1,6 +1,6 @@
 # With --diagnostics a text is warned of for a register that comes twice in a line `in` or `out`, of which the last item counts; and a call by
-# its name for numbers that are missing for words of the line `in`, or that the routine does not read. None with --no-warnings; no status
-# changes.
+# its name for numbers that are missing for words of the line `in`, or that the routine does not read, as a line of a script is. None with
+# --no-warnings; no status changes.
 export LC_ALL=C
 folder=$(mktemp -d)
 trap 'rm -rf "$folder"' EXIT
@@ -42,3 +42,14 @@ done
 said call lines.image sum 1 2 3 --diagnostics
 said call lines.image sum 1 2 3
 "$program" call lines.image sum 1 2 3 --json
+echo "in a script:"
+printf 'call scaled 1 4\ncall scaled 1\n; call sum 1 2 3\ncall sum 1 2 3\ncall nothing ; 1 2\n' >script
+for words in "--diagnostics" "--diagnostics --no-warnings" ""; do
+    echo "\$ geos call lines.asm $words <script"
+    "$program" call lines.asm $words <script 2>&1 | grep -v '^lines.asm'
+done
+"$program" new a.vm --area 512
+said run lines.image a.vm script --diagnostics
+"$program" call lines.image --json <script | sed -n 's/.*"kind":"warning","file":"-","line":\([0-9]*\),.*"message":"\([^"]*\)".*/\1 \2/p'
+awk 'BEGIN { for (i = 0; i < 22; i++) print "call nothing 1" }' >many
+said run lines.image a.vm many --diagnostics | sed -n '2p;21,$p'

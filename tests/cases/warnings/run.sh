@@ -1,5 +1,5 @@
 # With --diagnostics, and on a terminal, an accepted text is followed by warnings: a value in w7 that a refusal replaces and that is read in
-# both cases, a value that nothing reads, an instruction that is never reached, a counter that is set to 0. There are at most 20 of them, none
+# both cases, a value that nothing reads, an instruction that is never reached, a counter that is set to 0, a LOOP whose counter is 0. There are at most 20 of them, none
 # with --no-warnings, and none of a text that is refused. No status changes.
 export LC_ALL=C
 folder=$(mktemp -d)
@@ -65,9 +65,27 @@ said check others.image --diagnostics
 # 0 or the number of the refusal: both ways lead to the same instruction.
 printf 'routine tried public budget ?\n MLOCK s0 w0 no\n MUNLOCK s0\nno: LDI w7 0\n MFREE w0 told\ntold: OUT w7 end\nend: RET\n' >tried.asm
 said check tried.asm --diagnostics
+# The inner loop leaves 0 in the counter of the outer one.
+cat >inner.asm <<'E2'
+routine inner public budget ?
+        SETK k0 9
+outer:  SETK k0 9
+next:   OUT w0 end
+        LOOP k0 next
+        LOOP k0 outer
+end:    RET
+E2
+said check inner.asm --diagnostics
+sed '2s/k0/k1/; 6s/k0/k1/' inner.asm >two.asm
+said check two.asm --diagnostics
 awk 'BEGIN { print "routine f public budget ?"; for (i = 0; i < 23; i++) print "LDI w0 1"; print "RET" }' >many.asm
 said check many.asm --diagnostics | sed -n '2p;21,$p'
 printf 'routine f public budget 1\n LDI w0 1\n RET\n' >refused.asm
 said check refused.asm --diagnostics | cut -d: -f1-4
+# The RET before the label of refusals is missing. A jump to such a label is taken to be meant.
+printf 'routine f public budget ?\n OUT w0 e\ne: OUT w7 x\nx: RET\n' >missing.asm
+said check missing.asm --diagnostics
+printf 'routine f public budget ?\n CHK w0 5 e\n OUT w0 e\n RET\ne: OUT w7 x\nx: RET\n' >meant.asm
+said check meant.asm --diagnostics
 echo "on a terminal:"
 NO_COLOR=1 script -qec "'$program' call length.asm length" /dev/null </dev/null | tr -d '\r'
