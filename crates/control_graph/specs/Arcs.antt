@@ -10,13 +10,13 @@ arc_at arcs pc branch = slice_index_or (slice_index_or arcs pc []) (if branch th
 
 -- Counters
 
--- an edge asks for what is behind it of a counter's coefficient
+-- the edge does not change the counter, so it requires the counter's coefficient from its end
 abbrev pub keeps : Counting → ℕ → Bool
 keeps (Sets k n) c = not (k == c)
 keeps (Forgets forgotten) c = not (slice_index_or forgotten c false)
 keeps _ c = true
 
--- nothing is known of a counter behind it
+-- nothing is known of the counter after the edge
 abbrev pub forgets : Counting → ℕ → Bool
 forgets (Forgets forgotten) c = slice_index_or forgotten c false
 forgets _ c = false

@@ -9,8 +9,7 @@ use crate::leads::Lead;
 use crate::lists::Lists;
 use crate::pieces::{Order, Piece};
 use crate::pile::Pile;
-use geos_image::MOST_INSTRS;
-use pc_tables::{Table, two_tables};
+use geos_image::{MOST_INSTRS, Table, two_tables};
 use std::alloc::{AllocError, Global};
 
 /// What a search for components takes.

@@ -10,8 +10,7 @@ use crate::graph::Graph;
 use crate::jumps::{Jumps, lead_within};
 use crate::pieces::{Order, Piece};
 use crate::place::Place;
-use geos_image::MOST_INSTRS;
-use pc_tables::{Table, two_tables};
+use geos_image::{MOST_INSTRS, Table, two_tables};
 use std::alloc::{AllocError, Global};
 
 /// How far a place is searched.

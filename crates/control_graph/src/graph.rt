@@ -5,7 +5,7 @@ ghost use Rattle.control_graph.specs.Arcs.{arc_at};
 
 use crate::arcs::Arc;
 use crate::leads::{Lead, Leads};
-use pc_tables::Table;
+use geos_image::Table;
 use std::alloc::{AllocError, Global};
 
 /// The edges of a routine that stay in it.

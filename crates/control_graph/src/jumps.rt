@@ -4,7 +4,7 @@ ghost use Rattle.std.specs.Prelude.{◌<◌, Some, IfSome};
 
 use crate::graph::Graph;
 use crate::pieces::{Order, Piece};
-use pc_tables::Table;
+use geos_image::Table;
 
 /// What is found of the way from a place to its target.
 #[derive(Clone, Copy)]

@@ -3,7 +3,7 @@
 ghost use Rattle.std.specs.Prelude.{◌<◌};
 
 use crate::arcs::Arc;
-use pc_tables::{Table, two_tables};
+use geos_image::{Table, two_tables};
 use std::alloc::{AllocError, Global};
 
 /// An edge into a place: where it begins, and whether it leads to the target of the instruction there.

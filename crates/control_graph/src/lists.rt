@@ -2,8 +2,7 @@
 
 ghost use Rattle.std.specs.Prelude.{◌<◌};
 
-use geos_image::MOST_INSTRS;
-use pc_tables::{Table, two_tables};
+use geos_image::{MOST_INSTRS, Table, two_tables};
 use std::alloc::{AllocError, Global};
 
 /// A place that a search in depth has left, by its number.

@@ -3,7 +3,7 @@
 ghost use Rattle.std.specs.Prelude.{◌≡◌, ◌-◌, ◌≤◌};
 
 use crate::place::Place;
-use pc_tables::{Table, two_tables};
+use geos_image::{Table, two_tables};
 use std::alloc::{AllocError, Global};
 
 /// The places from one on up to another, in an order of places.

@@ -5,7 +5,7 @@ ghost use Rattle.std.specs.List.{count_by};
 ghost use Rattle.control_graph.specs.declared.place.Place.{Place};
 
 use crate::place::Place;
-use pc_tables::{Table, two_tables};
+use geos_image::{Table, two_tables};
 use std::alloc::{AllocError, Global};
 
 /// Places that wait, the last one on top. There is room for all that there may be, since none waits twice.

@@ -13,7 +13,7 @@ use Rattle.geos_asm.specs.declared.error.BudgetError.TheVariants.{Assemble}
 abbrev feeds : ℕ → Bool
 feeds byte = byte == 10
 
--- what is looked for from k on is not in front of k
+-- a search that starts at k finds nothing before k
 from-on : (bytes : List ℕ) (k j : ℕ) → position_from feeds k bytes ≡ Some j → k ≤ j
 from-on [] k j e = absurd cc
 from-on (b ∷ bytes) k j e = go (feeds b) e (from-on bytes (k + 1) j)
@@ -89,7 +89,7 @@ cut-whole line s e le =
     let front : take s line ++ take (e - s) (drop s line) ≡ take e line = sym (take-add s (e - s) line) ∙ ap (λ n. take n line) add in
     sym (ap (λ b. (take s line ++ take (e - s) (drop s line)) ++ b) (take_rest line e) ∙ ap (λ f. f ++ drop e line) front ∙ take-append-drop e line)
 
--- want of memory is a fault of some text alike
+-- if the result is lack of memory, it is a correct result for any text
 pub memory-fault : {A : Type 0} (text : List ℕ) (result : Result A BudgetError) → IsErrAnd result (λ x. x ≡ Assemble Memory)
     → IfErr result (IsWhyNoBudgets text)
 memory-fault text (Ok x) h = tt

@@ -1,4 +1,4 @@
--- Calls of routines that do not stand before the one that calls, as they are looked for.
+-- The search for calls of routines that do not come before the calling routine.
 use Rattle.std.proofs.Common.{◌≡◌, ◌∙◌, ◌<◌, ◌≤◌, ◌+◌, ℕ, true, false, length, Some, slice_get, refl, sym, ap, subst, inl, inr, arith}
 use Rattle.std.specs.Prelude.{IfSome}
 use Rattle.std.proofs.lemmas.Bool.{cases_lt, le-leb, lt-ltb}

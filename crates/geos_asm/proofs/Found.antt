@@ -18,7 +18,7 @@ use Rattle.geos_infer.specs.Findings.{Stops}
 use Rattle.geos_asm.specs.Assembling.{TellsOf}
 use Rattle.geos_rows.specs.Why.{MeetAlike}
 use Rattle.geos_infer.proofs.Keyed.{keyed-code, found-keyed, all-hold-keyed}
-use Rattle.geos_causes.specs.declared.cause.Cause.{Cause}
+use Rattle.geos_flow.specs.declared.cause.Cause.{Cause}
 use Rattle.geos_infer.specs.declared.finding.Finding.{Finding}
 use Rattle.geos_asm.specs.Assembling.{IsAssembled, RunsIfAnyDoes, HasNoRows, IsCauseIn}
 

@@ -1,4 +1,4 @@
--- LOOPs that take from a counter which nothing sets on a way to them, as they are looked for.
+-- The search for LOOPs that take from a counter which nothing sets on a path to them.
 use Rattle.std.proofs.Common.{◌≡◌, ◌∙◌, ◌<◌, ◌≤◌, ◌+◌, ℕ, Bool, List, true, false, length, Some, slice_get, refl, sym, ap, subst, inl, inr}
 use Rattle.std.proofs.Common.{arith}
 use Rattle.std.specs.Prelude.{◌↔◌, ◌&&◌, IfSome}

@@ -17,8 +17,8 @@ use Rattle.geos_infer.specs.Theorem.{FindsWhatThereIs, NoneIsAccepted, NothingHo
 use Rattle.loop_causes.specs.Causes.{Holds, tells_of_slots}
 use Rattle.geos_infer.specs.Findings.{Stops}
 use Rattle.geos_rows.specs.Why.{MeetAlike}
-use Rattle.geos_causes.specs.declared.cause.Cause.{Cause}
-use Rattle.geos_causes.specs.declared.cause.Cause.TheVariants as causes
+use Rattle.geos_flow.specs.declared.cause.Cause.{Cause}
+use Rattle.geos_flow.specs.declared.cause.Cause.TheVariants as causes
 use Rattle.geos_diagnosis.specs.Tells.{TellsOfReason}
 use Rattle.geos_infer.specs.declared.finding.Finding.{Finding}
 use Rattle.geos_infer.specs.declared.finding.Obstacle.{Obstacle}
@@ -69,19 +69,19 @@ pub record HasNoRows (text : List ℕ) (line : ℕ) : Type 0 where
   pub none : NoneIsAccepted (skeleton code)
   pub stuck : NothingHoldsIn (skeleton code) begins.r
 
--- why there is no image: the text's first fault, no rows, or want of memory
+-- why there is no image: the text's first fault, no rows and potentials, or lack of memory
 abbrev pub IsWhyNoImage : List ℕ → AssembleError → Type 0
 IsWhyNoImage text (BadLine fault) = code_of text ≡ Err fault
 IsWhyNoImage text (NoRows line) = HasNoRows text line
 IsWhyNoImage text Memory = Unit {0}
 
--- a cause tells of what is in the way
+-- a cause explains an obstacle
 abbrev pub TellsOf : Obstacle → Cause → Type 0
 TellsOf (SlotsDiffer apart) told = told ≡ causes.SlotsDiffer apart
 TellsOf (NoSteps unpaid) told = TellsOfReason unpaid.reason told
 
--- the cause holds of a routine of the text's code that begins at the line, and is that slots differ wherever ways of control meet so; and
--- it tells of what stops the search for rows and potentials there
+-- the cause holds of the routine that starts at the line, and explains what stops the search for rows and potentials
+-- in this routine. If the slots of two paths to one pc differ in more than marks, this is the cause.
 pub record IsCauseOf (text : List ℕ) (line : ℕ) (cause : Cause) : Type 0 where
   pub code : Code
   pub read : code_of text ≡ Ok code
@@ -93,12 +93,13 @@ pub record IsCauseOf (text : List ℕ) (line : ℕ) (cause : Cause) : Type 0 whe
   pub there : finding.routine ≡ begins.r
   pub tells : TellsOf finding.obstacle cause
 
--- the same, and these are the instructions of the text
+-- the same, and `instrs` are the instructions of the text
 pub record IsCauseIn (text : List ℕ) (line : ℕ) (cause : Cause) (instrs : List Instr) : Type 0 where
   pub of : IsCauseOf text line cause
   pub are : of.code.instrs ≡ instrs
 
--- why there is no image, with the cause and the lines of the instructions: the text's first fault, no rows, or want of memory
+-- why there is no image, with the cause and the lines of the instructions: the text's first fault, no rows and
+-- potentials, or lack of memory
 abbrev pub IsWhyUnassembled : List ℕ → Unassembled → Type 0
 IsWhyUnassembled text (unassembled.BadLine fault) = IsWhyNoImage text (BadLine fault)
 IsWhyUnassembled text (unassembled.NoRows line cause parsed) =

@@ -9,7 +9,7 @@ use Rattle.geos_asm.specs.Unset.{NoneUnset, TakesUnsetOn}
 use Rattle.geos_asm.specs.declared.error.BudgetError.{BudgetError}
 use Rattle.geos_asm.specs.declared.error.BudgetError.TheVariants.{Assemble, CallsOn, NotSet}
 
--- a byte in front of the first line, if there is one
+-- puts a byte at the start of the first line; without lines, the byte is a line
 abbrev pub in_front : ℕ → List (List ℕ) → List (List ℕ)
 in_front byte [] = (byte ∷ []) ∷ []
 in_front byte (line ∷ lines) = (byte ∷ line) ∷ lines
@@ -34,7 +34,7 @@ abbrev pub is_blank_there : Option ℕ → Bool
 is_blank_there None = false
 is_blank_there (Some byte) = is_blank byte
 
--- a word may begin behind it: it ends with a blank
+-- a word may begin after this: it ends with a blank
 abbrev pub begins_word : List ℕ → Bool
 begins_word front = is_blank_there (slice_get front (length front - 1))
 
@@ -43,7 +43,7 @@ abbrev pub ends_word : List ℕ → Bool
 ends_word [] = true
 ends_word (byte ∷ bytes) = is_blank byte || byte == 59 || byte == 13 || byte == 10
 
--- a line that is cut at two places: up to the budget, the budget, and what stands behind it
+-- a line in three parts: up to the budget, the budget, and the rest
 pub record Header : Type 0 where
   pub front : List ℕ
   pub budget : List ℕ
@@ -65,16 +65,17 @@ with_budget header n = header.front ++ decimal n ++ header.behind
 abbrev pub IsLineAlike : List ℕ → List ℕ → Type 0
 IsLineAlike old new = (new ≡ old) ⊎ ((header : Header) × (n : ℕ) × IsCutRound old header × (new ≡ with_budget header n))
 
--- so does each of some lines
+-- the same for each of some lines
 abbrev pub AreLinesAlike : List (List ℕ) → List ℕ → Type 0
 AreLinesAlike [] new = new ≡ []
 AreLinesAlike (line ∷ lines) new = (here : List ℕ) × (others : List ℕ) × IsLineAlike line here × AreLinesAlike lines others × (new ≡ here ++ others)
 
--- a text is the same but for the budgets of its routines
+-- two texts differ only in the budgets of their routines
 abbrev pub HasOtherBudgets : List ℕ → List ℕ → Type 0
 HasOtherBudgets text new = AreLinesAlike (whole_lines text) new
 
--- so it is, and has an image, whose calls lead to routines before their own, and whose LOOPs take from counters that are set
+-- the new text differs only in its budgets and has an image. Its calls lead to routines before their own, and its
+-- LOOPs take from counters that are set.
 abbrev pub IsBudgeted : List ℕ → List ℕ → Type 0
 IsBudgeted text new = HasOtherBudgets text new × ((image : Parts) × IsAssembled new image × CallBefore image × NoneUnset image)
 

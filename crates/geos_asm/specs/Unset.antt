@@ -34,28 +34,28 @@ takes i k = counts_down (facts i.opcode).counter && i.a == k
 abbrev pub sets : Instr → ℕ → Bool
 sets i k = gives (facts i.opcode).counter && i.a == k
 
--- the steps that are owed at a pc are the more, the more the counter has
+-- the potential at a pc has a coefficient for the counter that is not 0
 unfoldable pub owes_at : Parts → ℕ → ℕ → Bool
 owes_at image k pc = elim (slice_get image.points pc) [ None ↦ false | Some point ↦ not (slice_index point.potential.coefficients k == 0) ]
 
--- an edge is one of the routine that begins there and has so many instructions, its instruction leaves the counter alone, and behind it
--- steps are owed for the counter
+-- an edge starts in the routine with this start and count, its instruction neither sets the counter nor takes from
+-- it, and steps are owed for the counter after the edge
 unfoldable pub stays_unset : Parts → ℕ → ℕ → ℕ → Edge → ℕ → Bool
 stays_unset image start count k edge end = elim (slice_get image.points edge.from) [
   | None ↦ false
   | Some point ↦ has_place start count edge.from && not (takes point.instr k) && not (sets point.instr k) && owes_at image k end
 ]
 
--- a way along such edges leads to a pc from the routine's beginning
+-- a path from the start of the routine leads to a pc, and all its edges stay unset
 abbrev pub IsUnsetAt : Parts → ℕ → ℕ → ℕ → ℕ → Type 0
 IsUnsetAt image start count k pc = Leads (step_by image Ahead (stays_unset image start count k)) start pc
 
--- just such pcs are marked
+-- exactly these pcs are marked
 abbrev pub MarksUnset : Parts → ℕ → ℕ → ℕ → List Bool → Type 0
 MarksUnset image start count k marks = (pc : ℕ) → (is_marked marks pc ≡ true) ↔ IsUnsetAt image start count k pc
 
--- steps are owed for the counter where routine r begins, and a way on which nothing sets the counter or takes from it leads from there to
--- the instruction at a pc, which takes from it
+-- steps are owed for the counter at the start of routine r. A path on which nothing sets the counter or takes from it
+-- leads from there to the instruction at a pc, which takes from it.
 pub record TakesUnset (image : Parts) (r k pc : ℕ) : Type 0 where
   pub point : Point
   pub has : HasInstr image r pc point
@@ -63,19 +63,19 @@ pub record TakesUnset (image : Parts) (r k pc : ℕ) : Type 0 where
   pub way : IsUnsetAt image (start_of image.routines r) has.routine.count k pc
   pub does : takes point.instr k ≡ true
 
--- no instruction of routine r takes so from the counter
+-- no instruction of routine r takes from the counter in this way
 abbrev pub NoneUnsetOf : Parts → ℕ → ℕ → Type 0
 NoneUnsetOf image r k = (pc : ℕ) → TakesUnset image r k pc → ⊥
 
--- none of routine r takes so from a counter
+-- no instruction of routine r takes in this way from any counter
 abbrev pub NoneUnsetIn : Parts → ℕ → Type 0
 NoneUnsetIn image r = (k : ℕ) → k < 4 → NoneUnsetOf image r k
 
--- none does
+-- no instruction of the image takes in this way from any counter
 abbrev pub NoneUnset : Parts → Type 0
 NoneUnset image = (r : ℕ) → NoneUnsetIn image r
 
--- an instruction on a line of the text takes so from the counter
+-- an instruction on a line of the text takes in this way from the counter
 pub record TakesUnsetOn (text : List ℕ) (k line : ℕ) : Type 0 where
   pub image : Parts
   pub assembled : IsAssembled text image

@@ -9,8 +9,8 @@ ghost use Rattle.geos_asm.specs.Assembling.{IsAssembled, RunsIfAnyDoes, IsWhyUna
 ghost use Rattle.geos_asm.specs.declared.cause.Unassembled.TheVariants.{Memory};
 
 use crate::assembler::Assembled;
-use geos_causes::Cause;
 use geos_diagnosis::find_cause;
+use geos_flow::Cause;
 use geos_image::Image;
 use geos_infer::{FindError, Finding, Obstacle, find_image};
 use geos_source::{BadLine, ParseError, Parsed, parse, skeleton};

@@ -76,7 +76,7 @@ clean-least row = record {
       );
 }
 
--- A pointer into a slot that is held leads into one of the four.
+-- A pointer into a slot that is not empty leads into one of the four slots.
 
 held-within : (slots : List SlotState) (k : ℕ) → is_empty (get_or slots k Empty) ≡ false → k < length slots
 held-within [] k e = absurd cc
@@ -111,7 +111,7 @@ shape-parts row h =
       pairs = eqb-true (length row.pairs) 6 p.1;
     }
 
--- of that shape, it may stand in an image
+-- a cleaned row of this shape is legal in an image
 pub clean-legal : (row : Row) → is_shaped row ≡ true → is_row true (clean row) ≡ true
 unfolding names_empty_slot
 clean-legal row h =

@@ -1,4 +1,4 @@
--- Where control goes from an instruction, within its routine.
+-- The control-flow edges of an instruction, within its routine.
 use Rattle.std.specs.Prelude.{◌≡◌, ◌<◌, ℕ, Bool, ◌&&◌, nat_le, nat_lt, if◌then◌else◌, Option, Some, None, true, slice_get}
 use Rattle.geos_image.specs.declared.instr.Instr.{Instr}
 use Rattle.geos_image.specs.declared.point.Point.{Point}

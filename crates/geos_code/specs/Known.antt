@@ -9,7 +9,7 @@ use Rattle.geos_verify.specs.Rules.{names_empty_slot}
 
 -- Pointers into empty slots
 
--- the pointer, if the slot that it leads into is held
+-- the pointer, unless it leads into an empty slot
 abbrev pub without_empty : List SlotState → Option Pointer → Option Pointer
 without_empty slots p = if leads_nowhere slots p then None else p
 
@@ -26,7 +26,7 @@ pub record IsLeastClean (row above : Row) : Type 0 where
 
 -- Rows by places
 
--- of a place that nothing reaches: words are 0, no slot is held, and all pairs are known
+-- the row of a place that nothing reaches: words are 0, each slot is empty, and all pairs are known
 abbrev pub strongest : Row
 strongest = record {
   bounds = 0 ∷ 0 ∷ 0 ∷ 0 ∷ 0 ∷ 0 ∷ 0 ∷ 0 ∷ [];

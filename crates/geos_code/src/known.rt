@@ -5,9 +5,8 @@ ghost use Rattle.geos_image.specs.Legal.{is_shaped, is_row};
 ghost use Rattle.geos_verify.specs.Rows.{bound};
 ghost use Rattle.geos_code.specs.Known.{row_of, without_empty, clean, IsLeastClean};
 
-use geos_image::{Pointer, Row, SlotState};
+use geos_image::{Pointer, Row, SlotState, Table};
 use geos_verify::leads_nowhere;
-use pc_tables::Table;
 
 /// What is known at each pc.
 pub type Known = Table<Option<Row>>;

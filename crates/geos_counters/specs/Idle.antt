@@ -38,7 +38,8 @@ PassesAt image pc test = (point : Point) × (slice_get image.points pc ≡ Some 
 abbrev pub calls_touching : Parts → ℕ → Instr → Bool
 calls_touching image k i = calls i.opcode && touches image k i.imm
 
--- behind a pc of routine r control can come to another, and on that way nothing sets the counter, and no routine is called that touches it
+-- after a pc of routine r control can come to another pc on a path on which nothing sets the counter, and no called
+-- routine touches it
 pub record IsKept (image : Parts) (r counter at to : ℕ) : Type 0 where
   pub behind : IsPcOf image r (at + 1)
   pub branches : List Bool
@@ -71,7 +72,7 @@ abbrev pub IsIdleWay : Parts → ℕ → ℕ → List Bool → ℕ → Type 0
 IsIdleWay image r from [] to = from ≡ to
 IsIdleWay image r from (branch ∷ branches) to = (next : ℕ) × LeadsIdle image r from branch next × IsIdleWay image r next branches to
 
--- the same by places of which something is so
+-- the same for paths through places for which a predicate is true
 abbrev pub IsIdleWayBy : Parts → ℕ → (ℕ → Type 0) → ℕ → List Bool → ℕ → Type 0
 IsIdleWayBy image r place from [] to = from ≡ to
 IsIdleWayBy image r place from (branch ∷ branches) to = (next : ℕ) × place from × LeadsIdle image r from branch next

@@ -22,7 +22,7 @@ NotesOwn image table = (k r : ℕ) → k < 4 → r < length image.routines → t
 abbrev pub NotesAllTouched : Parts → List (List Bool) → Type 0
 NotesAllTouched image table = (k r : ℕ) → k < 4 → touches image k r ≡ true → noted table k r ≡ true
 
--- what is known of the counters that routines touch is so
+-- what is known of the counters that routines touch is true
 pub record KnowsTouched (image : Parts) (touching : Touching) : Type 0 where
   pub certain : NotesTouched image touching.certain
   pub possible : NotesAllTouched image touching.possible

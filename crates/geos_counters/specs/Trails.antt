@@ -9,7 +9,8 @@ use Rattle.geos_verify.specs.Touched.{touches}
 use Rattle.geos_code.specs.Code.{IsPcOf}
 use Rattle.geos_code.specs.Edges.{LeadsTo}
 
--- an edge of the instruction does not set the counter, nor goes on behind a LOOP on it, nor behind a call of a routine that touches it
+-- the edge of an instruction does not change the counter: the instruction does not set it, the edge does not leave a
+-- LOOP on it at 0, and no called routine touches it
 abbrev pub keeps_counter : Parts → ℕ → Instr → Opcode → Bool → Bool
 keeps_counter image k i Setk branch = not (i.a == k)
 keeps_counter image k i Setkw branch = not (i.a == k)
@@ -17,7 +18,7 @@ keeps_counter image k i Loop branch = branch || not (i.a == k)
 keeps_counter image k i Call branch = not (touches image k i.imm)
 keeps_counter image k i _ branch = true
 
--- the same where a counter is asked for
+-- the same, if a counter is given
 abbrev pub keeps : Parts → Option ℕ → Instr → Opcode → Bool → Bool
 keeps image None i opcode branch = true
 keeps image (Some k) i opcode branch = keeps_counter image k i opcode branch

@@ -15,9 +15,9 @@ ghost use Rattle.geos_diagnosis.specs.Tells.{TellsOfHalt, TellsOfLack, TellsOfPa
 
 use crate::in_turn::{find_in_turn, find_own_set};
 use crate::ring::find_in_ring;
-use geos_causes::{BackWay, Cause};
 use geos_code::{Body, Known, body_of};
 use geos_counters::{Touching, find_touching};
+use geos_flow::{BackWay, Cause};
 use geos_image::Image;
 use geos_potentials::{Halt, Halted, Lack, Reason, Search, find_dearest, some_always_may_pay};
 use geos_rows::Strongest;

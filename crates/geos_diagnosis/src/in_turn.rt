@@ -8,9 +8,9 @@ ghost use Rattle.geos_diagnosis.specs.Nests.{PaysInSuch, WasPaidAgain, IsTightAt
 ghost use Rattle.control_graph.specs.declared.jumps.Jump.TheVariants.{Plain, Pays};
 
 use control_graph::{Graph, Jump, Piece};
-use geos_causes::{LoopPair, Within};
 use geos_code::Body;
 use geos_counters::Touching;
+use geos_flow::{LoopPair, Within};
 use geos_image::MOST_INSTRS;
 use geos_potentials::Splitting;
 use loop_causes::{Trails, find_set_within, loop_at, set_for};

@@ -3,13 +3,13 @@
 ghost use Rattle.std.specs.Prelude.{◌≡◌, ◌<◌, true, List, IfSome};
 ghost use Rattle.geos_counters.specs.Touching.{KnowsTouched};
 ghost use Rattle.loop_causes.specs.Causes.{LoopsTo, SetsFor, WaitOn, WaitInRing};
-ghost use Rattle.geos_causes.specs.declared.back_way.BackWay.{BackWay};
+ghost use Rattle.geos_flow.specs.declared.back_way.BackWay.{BackWay};
 
 use crate::in_turn::nest_of;
 use control_graph::Graph;
-use geos_causes::{BackWay, LoopRing};
 use geos_code::Body;
 use geos_counters::Touching;
+use geos_flow::{BackWay, LoopRing};
 use geos_image::MOST_INSTRS;
 use geos_potentials::{Nest, Splitting};
 use loop_causes::{Trails, loop_at, note_set, set_for};

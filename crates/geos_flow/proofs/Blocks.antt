@@ -1,4 +1,4 @@
--- What is said of blocks of 64 pcs.
+-- The flags of blocks of 64 pcs.
 use Rattle.std.proofs.Common.{◌≡◌, ◌<◌, ◌+◌, ◌*◌, ◌/◌, ◌≢◌, ℕ, Bool, true, false, List, length, replicate, get_or, set, sym, ap, ◌∙◌, subst, inl, inr, arith}
 use Rattle.std.proofs.lemmas.Bool.{cases_eq}
 use Rattle.std.proofs.lemmas.List.{get_or-replicate, get_or-set_same, get_or-set_other}

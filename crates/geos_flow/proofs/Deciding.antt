@@ -7,7 +7,7 @@ use Rattle.geos_flow.specs.declared.search.Heading.{Heading}
 use Rattle.geos_flow.specs.Flow.{Step, step_by, Lead, Leads}
 use Rattle.geos_flow.proofs.Steps.{AreWithin, inside}
 
--- something is so, or it is not
+-- a statement is true, or its negation is
 abbrev pub IsDecided : Type 0 → Type 0
 IsDecided P = P ⊎ (P → ⊥)
 
@@ -93,7 +93,7 @@ module _ (steps : Edge → Option Step) (count : ℕ) (inside : AreWithin count 
       (below-or-not (GoesAt from to)
       (λ n. either-or-not (step-or-not (steps (edge_at n false)) from to) (step-or-not (steps (edge_at n true)) from to)) count)
 
-  -- a way leads from one pc to another, and between them by way of the first n pcs alone
+  -- a path leads from one pc to another, and all pcs between them are among the first n
   abbrev By : ℕ → ℕ → ℕ → Type 0
   By zero from to = (to ≡ from) ⊎ Goes from to
   By (suc n) from to = By n from to ⊎ (By n from n × By n n to)

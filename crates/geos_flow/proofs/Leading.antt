@@ -7,7 +7,7 @@ use Rattle.geos_flow.specs.Waiting.{Has}
 use Rattle.geos_flow.proofs.Marked.{has-marked, has-within, is-marked}
 
 module _ (steps : Edge → Option Step) (begun : List Bool) where
-  -- a way goes on
+  -- a path with one more edge
   pub led-on : (from to : ℕ) (edge : Edge) → IsLed steps begun from → steps edge ≡ Some (record { from = from; to = to }) → IsLed steps begun to
   led-on from to edge led is = record { start = led.start; begins = led.begins; edges = edge ∷ led.edges; lead = (from, led.lead, is) }
 

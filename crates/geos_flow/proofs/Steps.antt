@@ -57,7 +57,7 @@ pub step-low : (image : Parts) (heading : Heading) (edge : Edge) (end : ℕ) →
 step-low image Ahead edge end short ends = let low = end-inside image edge end ends in omega (arith, short, low.1)
 step-low image Back edge end short ends = let low = end-inside image edge end ends in omega (arith, short, low.0)
 
--- steps are those along edges of so many pcs, and lead to such
+-- each step follows an edge from a pc below `count`, and leads from one pc below `count` to another
 abbrev pub AreWithin : ℕ → (Edge → Option Step) → Type 0
 AreWithin count steps = (edge : Edge) (step : Step) → steps edge ≡ Some step → (edge.from < count) × (step.from < count) × (step.to < count)
 

@@ -102,7 +102,7 @@ module _ (image : Parts) (counts : Edge → ℕ → Bool) where
       by_branch true to is = aside.there to is
       by_branch false to is = let keeps = aside.extends in keeps.keeps to (along.there to is)
 
-  -- the edges back from a pc were gone along, but for one and those before it
+  -- of the edges back from a pc, all but this one and those before it have been followed
   pub record HasGoneBack (to : ℕ) (at : Option Edge) (old new : Waiting) : Type 0 where
     pub kept : IsKept new
     pub extends : Extends old new

@@ -9,11 +9,11 @@ use Rattle.geos_flow.specs.declared.edge.Edge.{Edge}
 abbrev pub end_of : Edge → Instr → ℕ
 end_of edge i = if edge.branch then i.target else edge.from + 1
 
--- the same, if the instruction has the edge, and it leads to one of so many
+-- the same, if the instruction has the edge, and it leads to a pc below `count`
 abbrev pub end_below : ℕ → Edge → Instr → Option ℕ
 end_below count edge i = if has_edge i edge.branch && nat_lt (end_of edge i) count then Some (end_of edge i) else None
 
--- where an edge of an image leads
+-- the pc to which an edge of an image leads
 abbrev pub end_in : Parts → Edge → Option ℕ
 end_in image edge = elim (slice_get image.points edge.from) [ None ↦ None | Some point ↦ end_below (length image.points) edge point.instr ]
 

@@ -1,4 +1,4 @@
--- The edges to each pc, each behind the next one.
+-- The edges to each pc, as linked lists.
 use Rattle.std.specs.Prelude.{◌≡◌, ◌<◌, ◌≤◌, ◌+◌, ℕ, Bool, true, List, Option, Some, None, slice_index_or}
 use Rattle.geos_image.specs.Parts.{Parts}
 use Rattle.geos_flow.specs.declared.edge.Edge.{Edge}
@@ -10,7 +10,7 @@ pub record LeadsTo (image : Parts) (from to : ℕ) : Type 0 where
   pub begins : edge.from ≡ from
   pub ends : end_in image edge ≡ Some to
 
--- the edge that stands behind another
+-- the edge that follows an edge in its list
 abbrev pub behind_of : List (Option Edge) → Edge → Option Edge
 behind_of behind edge = slice_index_or behind (number_of edge) None
 
@@ -34,7 +34,7 @@ pub record IsInto (image : Parts) (counts : Edge → ℕ → Bool) (to : ℕ) (e
   pub ends : end_in image edge ≡ Some to
   pub is_counted : counts edge to ≡ true
 
--- an edge stands there that comes no later than another
+-- there is an edge, and its number is at most that of the given edge
 abbrev pub Stands : Option Edge → Edge → Type 0
 Stands at edge = (first : Edge) × (at ≡ Some first) × (number_of first ≤ number_of edge)
 

@@ -4,3 +4,4 @@ pub mod Flow
 pub mod Graphs
 pub mod Waiting
 pub mod Pending
+pub mod Slots

@@ -13,6 +13,6 @@ marked marks pc = if nat_lt pc 4096 then slice_set marks pc true else marks
 abbrev pub is_marked : List Bool → ℕ → Bool
 is_marked marks pc = nat_lt pc 4096 && slice_index_or marks pc false
 
--- those pcs are marked of which something is so, and no other
+-- exactly the pcs for which `is` is true are marked
 abbrev pub Marking : List Bool → (ℕ → Bool) → Type 0
 Marking marks is = (pc : ℕ) → is_marked marks pc ≡ is pc

@@ -1,4 +1,4 @@
--- Which pcs wait to be looked at.
+-- The worklist of pcs.
 use Rattle.std.specs.Prelude.{◌≡◌, ◌<◌, ◌≤◌, ◌⊎◌, ◌+◌, ◌/◌, ℕ, Bool, true, false, List, slice_index_or}
 use Rattle.geos_flow.specs.Marks.{is_marked}
 
@@ -30,6 +30,6 @@ pub record Adds (pc : ℕ) (old new : List Bool) : Type 0 where
   pub keeps : (k : ℕ) → is_marked old k ≡ true → is_marked new k ≡ true
   pub was : (k : ℕ) → is_marked new k ≡ true → (k ≡ pc) ⊎ (is_marked old k ≡ true)
 
--- of each block of 64 pcs it is said that one is marked, if one is
+-- each block of 64 pcs that has a marked pc is flagged
 abbrev pub AreIn : List Bool → List Bool → Type 0
 AreIn blocks marks = (pc : ℕ) → is_marked marks pc ≡ true → slice_index_or blocks (pc / 64) false ≡ true

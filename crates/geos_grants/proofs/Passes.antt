@@ -44,7 +44,7 @@ length-took (suc n) [] = omega arith
 length-took (suc n) (x ∷ xs) = let ih = length-took n xs in omega (arith, ih)
 
 module _ (image : Parts) (r start : ℕ) (start_is : start ≡ start_of image.routines r) where
-  -- no place stands before the first
+  -- no instruction comes before the first
   pub passed-none : (test : Place → Bool) → list_any test (take (start - start_of image.routines r) (places_of image r)) ≡ false
   passed-none test = let none : start - start_of image.routines r ≡ 0 = omega (arith, start_is) in rw none refl
 

@@ -1,4 +1,4 @@
--- What one instruction does to what is not the routine's own, where a row is known before it.
+-- What one instruction does outside the routine, given the row before it.
 use Rattle.std.specs.Prelude.{ℕ, Bool, true, false, ◌&&◌, ◌||◌, not, ◌==◌, Option, Some, None}
 use Rattle.geos_opcodes.specs.declared.opcode.Opcode.{Opcode}
 use Rattle.geos_opcodes.specs.declared.opcode.Opcode.TheVariants as op
@@ -48,7 +48,8 @@ reads_file op.Ilock = true
 reads_file op.Igetmap = true
 reads_file _ = false
 
--- it makes or frees blocks or groups of the VM file, changes items by the handle of their group, or goes back to the saved directory
+-- it makes or frees blocks or groups of the VM file, changes items by the handle of their group, or restores the
+-- saved directory
 abbrev pub changes_file : Opcode → Bool
 changes_file op.Vnew = true
 changes_file op.Vfree = true
@@ -62,7 +63,7 @@ changes_file op.Iins = true
 changes_file op.Idel = true
 changes_file _ = false
 
--- it names what is mapped, may free it, or goes back to the saved directory
+-- it sets the map block or item, may free it, or restores the saved directory
 abbrev pub maps : Opcode → Bool
 maps op.Vfree = true
 maps op.Gfree = true
@@ -117,16 +118,16 @@ abbrev pub state_at : Row → Option ℕ → SlotState
 state_at row None = Empty
 state_at row (Some a) = slot_state row a
 
--- the slot holds a block of global memory
+-- the slot has a block of global memory
 abbrev pub is_mem : SlotState → Bool
 is_mem Mem = true
 is_mem _ = false
 
--- it holds a block or a group of the VM file that is not lent
+-- it has a block or a group of the VM file that is not lent
 abbrev pub is_own_in_file : SlotState → Bool
 is_own_in_file state = is_of_file state && is_own state
 
--- it is slot k, and holds a block that is lent
+-- it is slot k, and has a block that is lent
 abbrev pub lends : Row → Option ℕ → ℕ → Bool
 lends row None k = false
 lends row (Some a) k = a == k && not (is_own (slot_state row k))

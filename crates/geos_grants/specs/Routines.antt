@@ -21,7 +21,7 @@ places_of image r = elim (slice_get image.routines r) [
   | Some routine ↦ take routine.count (drop (start_of image.routines r) (places image))
 ]
 
--- the instruction at a place has the effect, or calls a routine that is said to have it
+-- the instruction at a place has the effect, or calls a routine that the table says has it
 abbrev pub acts : Effect → (ℕ → Bool) → Place → Bool
 acts effect called place = does effect place.instr place.row || (calls place.instr.opcode && called place.instr.imm)
 
@@ -59,7 +59,7 @@ pub record CallsOne (image : Parts) (r c : ℕ) : Type 0 where
   pub calls : calls place.instr.opcode ≡ true
   pub callee : place.instr.imm ≡ c
 
--- routine r comes to routine q by so many calls
+-- routine r reaches routine q by so many calls
 abbrev pub ComesBy : ℕ → Parts → ℕ → ℕ → Type 0
 ComesBy zero image r q = r ≡ q
 ComesBy (suc n) image r q = (c : ℕ) × CallsOne image r c × ComesBy n image c q
@@ -74,7 +74,7 @@ pub record IsSource (image : Parts) (r : ℕ) (effect : Effect) (pc : ℕ) : Typ
   pub has : HasPoint image in_it routine pc place
   pub does : does effect place.instr place.row ≡ true
 
--- the instruction at the pc of routine r has the effect; or a routine that r calls is said to have it
+-- the instruction at the pc of routine r has the effect; or r calls a routine that the table says has it
 abbrev pub IsFrom : Parts → List Effects → Effect → ℕ → Source → Type 0
 IsFrom image table effect r (Here pc) = (routine : Routine) × (place : Place) × HasPoint image r routine pc place
     × (does effect place.instr place.row ≡ true)

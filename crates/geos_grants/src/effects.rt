@@ -48,7 +48,7 @@ fn either(flags: &[bool; 4], others: &[bool; 4]) -> [bool; 4]
     [a || p, b || q, c || r, d || s]
 }
 
-/// Whether one of the two is so.
+/// Whether at least one of the two is true.
 fn one_of(flag: bool, other: bool) -> bool
     ensures { result ≡ (flag || other) }
 {

@@ -56,7 +56,7 @@ fn effects_in(image: &Image, r: u16, table: &EffectTable) -> Effects
     found
 }
 
-/// What each routine does, from the lowest up: it calls those below it alone.
+/// What each routine does, from the first to the last: a routine calls only earlier ones.
 fn effects_of_all(image: &Image) -> EffectTable
     requires { IsChecked image.now }
     ensures { NotesAll image.now result }
@@ -84,7 +84,8 @@ enum Source {
     Called(u16),
 }
 
-/// Where a routine has the effect from: the first of its instructions that has it, or that calls a routine that has it.
+/// The source of a routine's effect: the first of its instructions that has the effect, or that calls a routine with
+/// the effect.
 fn source_in(image: &Image, r: u16, table: &EffectTable, effect: Effect) -> Source
     requires there { r < length image.now.routines }
     requires has { has_by image.now table.now effect r ≡ true }

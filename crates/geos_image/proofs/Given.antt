@@ -1,4 +1,4 @@
--- Where an image gives a row: at its key places, in either version.
+-- An image has rows at its key places, in either version.
 use Rattle.std.proofs.Common.{◌≡◌, ◌<◌, ◌⊎◌, inl, inr, ℕ, zero, suc, ◌+◌, Bool, true, false, List, [], ◌∷◌, ◌++◌, length, take, get_or, set, Option, Some, None, slice_get, refl, sym, subst, ◌∙◌, length-set, arith}
 use Rattle.std.specs.Prelude.{◌&&◌, not, nat_lt, replicate}
 use Rattle.std.specs.Option.{is_some}
@@ -75,7 +75,7 @@ key-led routines instrs k lt h =
     flag-set (keys_from 0 instrs) starts k
     (omega (arith, lt, starts-length (starts_from 0 routines) (replicate 4096 false), length-replicate 4096 false)) h
 
--- a row stands where a flag is set
+-- there is a row at each flag
 stands-there : (flags : List Bool) (points : List Point) (pc : ℕ) → rows_stand flags points ≡ true → pc < length points
     → get_or flags pc false ≡ true → elim (slice_get points pc) [ None ↦ false | Some point ↦ is_some point.row ] ≡ true
 stands-there flags [] pc h lt e = absurd (omega (arith, lt))
@@ -90,7 +90,7 @@ stands-there (flag ∷ flags) (point ∷ points) zero h lt e =
 stands-there (flag ∷ flags) (point ∷ points) (suc pc) h lt e = stands-there flags points pc
     ((and_parts (row_stands flag point.row) (rows_stand flags points) h).1) (omega (arith, lt)) e
 
--- and nowhere else
+-- there is a row exactly at the flags
 stands-as : (flags : List Bool) (points : List Point) (pc : ℕ) → rows_stand flags points ≡ true → pc < length points
     → elim (slice_get points pc) [ None ↦ false | Some point ↦ is_some point.row ] ≡ get_or flags pc false
 stands-as flags [] pc h lt = absurd (omega (arith, lt))
@@ -118,7 +118,7 @@ module _ (image : Parts) (legal : is_image image ≡ true) where
   pub gives-key : (pc : ℕ) → pc < length image.points → is_key image pc ≡ true → gives image pc ≡ true
   gives-key pc lt e = gives-at pc lt e
 
-  -- and in version 2 there alone
+  -- in version 2 there is a row exactly at the key places
   pub key-given : (pc : ℕ) → pc < length image.points → image.keyed ≡ true → gives image pc ≡ is_key image pc
   key-given pc lt keyed = stands-as (key_flags image.routines (instrs_of image.points)) image.points pc
       (rw keyed at (image_parts image legal).rows) lt
@@ -168,7 +168,7 @@ module _ (image : Parts) (legal : is_image image ≡ true) where
           among-right point.instr.target (target_key x.instr) (cut_key at x.instr ++ keys_from (at + 1) (instrs_of points))
           (among-right point.instr.target (cut_key at x.instr) (keys_from (at + 1) (instrs_of points)) (go points pc (at + 1) e))
 
-  -- behind an instruction from which control does not go on
+  -- there is a row after an instruction that never falls through
   pub gives-cut : (pc : ℕ) (point : Point) → slice_get image.points pc ≡ Some point → falls_through point.instr.opcode ≡ false
       → pc + 1 < length image.points → gives image (pc + 1) ≡ true
   gives-cut pc point there cut lt =

@@ -1,5 +1,5 @@
--- The two laws: bytes that are read as an image are its spelling, and its spelling is read as
--- the image.
+-- Reading and encoding images are inverse: bytes that are read as an image are its encoding, and its encoding is read
+-- as the image.
 use Rattle.std.proofs.Common.{◌≡◌, ℕ, ◌+◌, ◌*◌, ◌^◌, ◌<◌, ◌≤◌, Bool, true, false, List, [], ◌∷◌, ◌++◌, length, take, drop, All, Result, Ok, Err, refl, sym, ap, subst, ◌∙◌, lit<, append_assoc, arith}
 use Rattle.std.specs.Prelude.{IfOk, ◌==◌, ◌&&◌, ◌||◌, nat_lt, nat_le, nat_eq, replicate}
 use Rattle.std.specs.List.{flat_map, list_all}
@@ -62,11 +62,11 @@ header_found bytes fits head h =
     subst (λ (x : Bool × ℕ). Takes bytes 0 (header x.0 x.1) 8) (ok_is read head h)
     (Takes-then (Takes-then takes-magic takes-version) takes-count))))))
 
--- the instructions of points, spelled
+-- the encoded instructions of points
 instrs_text : (points : List Point) → flat_map instr (instrs_of points) ≡ flat_map (λ (point : Point). instr point.instr) points
 instrs_text points = flat_map-map instr (λ (point : Point). point.instr) points
 
--- what is read behind the instructions of an image
+-- what is read after the instructions of an image
 record RestFound (bytes : List ℕ) (keyed : Bool) (routines : List Routine) (instrs : List Instr) (at : ℕ) (image : Parts) : Type 0 where
   pub keyed_is : image.keyed ≡ keyed
   pub routines_are : image.routines ≡ routines
@@ -263,7 +263,7 @@ image_again bytes image legal fits e =
     let rest = rest_again bytes image.routines image.points count total entries fits.points image.keyed points-legal parts.rows instrs.1 in
     rw (head.0, routines.0, instrs.0, rest) refl
 
--- what reading gives is spelled there
+-- the bytes that were read are the encoding of the result
 pub found_by : (bytes : List ℕ) (result : Result Parts ReadError) → IsBytes bytes → Gives (λ (image : Parts). image) result (image_at bytes)
     → IfOk result (λ image. bytes ≡ spelling image)
 found_by bytes (Ok image) fits h = image_found bytes fits image h

@@ -1,4 +1,4 @@
--- Instructions: what is read is spelled there, and what is spelled there is read.
+-- Reading and encoding instructions are inverse.
 use Rattle.std.proofs.Common.{◌≡◌, ℕ, ◌+◌, ◌^◌, ◌<◌, ◌≤◌, true, List, [], ◌∷◌, ◌++◌, Ok, refl, sym, subst, ◌∙◌, arith}
 use Rattle.geos_opcodes.specs.declared.opcode.Operand.{Operand}
 use Rattle.geos_opcodes.specs.declared.opcode.Operand.TheVariants.{Unused, Word, Counter, Slot, Pointer, Number, Shift, Routine, Label}
@@ -32,7 +32,7 @@ operand_fits : (routines instrs : ℕ) (operand : Operand) (n : ℕ) → routine
     → n < limit routines instrs operand → n < 2 ^ 16
 operand_fits routines instrs operand n r i lt = omega (arith, limit_fits routines instrs operand r i)
 
--- an instruction that was read stands there
+-- the bytes of an instruction that was read are its encoding
 pub instr_found : (routines instrs : ℕ) (bytes : List ℕ) → IsBytes bytes → (at next : ℕ) (i : Instr) → next ≡ at + 10
     → instr_at routines instrs bytes at ≡ Ok i → Takes bytes at (instr i) next
 unfolding instr_at fields_at
@@ -60,7 +60,7 @@ instr_found routines instrs bytes fits at next i e h =
     let cells = Takes-then (Takes-then (Takes-then (Takes-then (Takes-then takes-code takes-a) takes-b) takes-c) takes-d) takes-unused in
     subst (λ (j : Instr). Takes bytes at (instr j) next) (ok_is read i h) (Takes-then (Takes-then cells takes-imm) takes-target))))))))))
 
--- an instruction that stands there is read
+-- the encoding of an instruction is read as the instruction
 pub instr_again : (routines instrs : ℕ) (bytes : List ℕ) (at next : ℕ) (i : Instr) (rest : List ℕ) → routines ≤ 2 ^ 16
     → instrs ≤ 2 ^ 16 → next ≡ at + 10 → is_instr routines instrs i ≡ true
     → Left bytes at (instr i ++ rest) → (instr_at routines instrs bytes at ≡ Ok i) × Left bytes next rest

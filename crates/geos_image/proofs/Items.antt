@@ -84,7 +84,7 @@ module _ (borrows : Bool) (bytes : List ℕ) (count : ℕ) (total : Result (List
       let one : routines_at borrows bytes (count - i) at front ≡ Ok front = rw k refl in
       sym so_far ∙ one
 
--- what an instruction is told is read where its row and its potential are
+-- the row and the potential of an instruction are read together
 pub entry_whole : (bytes : List ℕ) (at : ℕ) (row : Row) (potential : Potential) → row_at false bytes at ≡ Ok row
     → potential_at bytes (at + 38) ≡ Ok potential → entry_at bytes at ≡ Ok (row, potential)
 unfolding entry_at

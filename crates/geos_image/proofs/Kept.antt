@@ -1,4 +1,4 @@
--- Rows that are kept where places are flagged.
+-- Points whose rows are removed except at flags.
 use Rattle.std.proofs.Common.{◌≡◌, ℕ, zero, suc, ◌+◌, ◌≤◌, ◌<◌, Bool, true, false, List, [], ◌∷◌, ◌++◌, length, take, drop, set, get_or, Option, Some, None, refl, sym, ap, subst, ◌∙◌, append_assoc, arith}
 use Rattle.std.specs.Prelude.{◌&&◌, ◌||◌, ◌==◌, not, nat_lt, replicate, slice_get, slice_index_or}
 use Rattle.std.specs.List.{list_all}
@@ -70,7 +70,7 @@ kept-stands (suc n) (flag ∷ flags) (point ∷ points) room h =
     one true o h = h
     one false o h = refl
 
--- where those at flags alone are given, they are all
+-- if there are rows only at flags, none is removed
 kept-same : (flags : List Bool) (points : List Point) → rows_stand flags points ≡ true → kept_rows flags points ≡ points
 kept-same flags [] h = refl
 kept-same [] (point ∷ points) h = absurd cc

@@ -81,7 +81,7 @@ with_rows-given (true ∷ flags) (point ∷ points) [] e = absurd (omega (arith,
 with_rows-given (true ∷ flags) (point ∷ points) (r ∷ rows) e = given-some r point (with_rows flags points rows) rows
     (with_rows-given flags points rows (omega (arith, e)))
 
--- and one stands at each flag
+-- there is a row exactly at each flag
 pub with_rows-stand : (flags : List Bool) (points : List Point) (rows : List Row) → length points ≤ length flags
     → flag_count flags (instrs_of points) ≡ length rows → rows_stand flags (with_rows flags points rows) ≡ true
 with_rows-stand flags [] rows room e = refl
@@ -116,9 +116,9 @@ with_rows-legal borrows routines instrs (true ∷ flags) (point ∷ points) (r �
     legal-one borrows routines instrs point (Some r) (with_rows flags points rows) points h parts.0
     (λ h. with_rows-legal borrows routines instrs flags points rows h parts.1)
 
--- ---- rows that stand at places
+-- ---- the rows of points
 
--- a row in front of others, where there is one
+-- the rows, with another one first, if there is one
 abbrev pub with_some : Option Row → List Row → List Row
 with_some None rows = rows
 with_some (Some r) rows = r ∷ rows

@@ -17,3 +17,4 @@ pub mod RoutineLaws
 pub mod ImageLaws
 pub mod Starts
 pub mod RepeatLaws
+pub mod Filled

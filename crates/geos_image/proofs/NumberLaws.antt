@@ -1,4 +1,4 @@
--- Numbers: what is read is spelled there, and what is spelled there is read.
+-- Reading and encoding numbers are inverse.
 use Rattle.std.proofs.Common.{◌≡◌, ℕ, zero, suc, ◌+◌, ◌^◌, ◌<◌, List, [], ◌∷◌, ◌++◌, length, get_or, Result, Ok, Err, refl, sym, subst, ap, arith}
 use Rattle.std.specs.Prelude.{nat_lt}
 use Rattle.std.proofs.lemmas.Bool.{ltb-true, lt-ltb}
@@ -15,13 +15,13 @@ are_more : (b : ℕ) (bytes : List ℕ) → b < 256 → IsBytes bytes → IsByte
 are_more b bytes lt fits zero = lt
 are_more b bytes lt fits (suc i) = fits i
 
--- a byte that was read stands there
+-- the byte that was read is at this offset
 pub byte_found : (bytes : List ℕ) (at next n : ℕ) → next ≡ at + 1 → byte_at bytes at ≡ Ok n → Takes bytes at (n ∷ []) next
 byte_found bytes at next n e h =
     let g = cond_ok _ _ _ n h in
     subst (λ (m : ℕ). Takes bytes at (m ∷ []) next) g.1 (Takes-byte bytes at next e (ltb-true _ _ g.0))
 
--- a word that was read stands there
+-- the bytes of a word that was read are its encoding
 pub word_found : (bytes : List ℕ) → IsBytes bytes → (at next n : ℕ) → next ≡ at + 2 → word_at bytes at ≡ Ok n → Takes bytes at (word n) next
 word_found bytes fits at next n e h =
     let g = cond_ok _ _ _ n h in
@@ -34,7 +34,7 @@ word_found bytes fits at next n e h =
     (sym g.1) in
     subst (λ (t : List ℕ). Takes bytes at t next) (sym same) cells
 
--- a long that was read stands there
+-- the bytes of a long that was read are its encoding
 pub long_found : (bytes : List ℕ) → IsBytes bytes → (at next n : ℕ) → next ≡ at + 4 → long_at bytes at ≡ Ok n → Takes bytes at (long n) next
 long_found bytes fits at next n e h =
     let g = cond_ok _ _ _ n h in
@@ -61,11 +61,11 @@ below_ok limit at (Ok m) n h =
     (ap Ok same, subst (λ (k : ℕ). k < limit) same (ltb-true _ _ (guard_ok at _ test tested))))
 below_ok limit at (Err fault) n h = absurd cc
 
--- a byte below its limit that was read stands there
+-- the byte below its limit that was read is at this offset
 pub byte_below_found : (limit : ℕ) (bytes : List ℕ) (at next n : ℕ) → next ≡ at + 1 → byte_below limit bytes at ≡ Ok n → Takes bytes at (n ∷ []) next
 byte_below_found limit bytes at next n e h = byte_found bytes at next n e (below_ok limit at (byte_at bytes at) n h).0
 
--- a word below its limit that was read stands there
+-- the bytes of a word below its limit that was read are its encoding
 pub word_below_found : (limit : ℕ) (bytes : List ℕ) → IsBytes bytes → (at next n : ℕ) → next ≡ at + 2
     → word_below limit bytes at ≡ Ok n → Takes bytes at (word n) next
 word_below_found limit bytes fits at next n e h = word_found bytes fits at next n e (below_ok limit at (word_at bytes at) n h).0
@@ -77,14 +77,14 @@ unused_found bytes at next n e h =
     let none : n ≡ 0 = omega (arith, b.1) in
     subst (λ (m : ℕ). Takes bytes at (m ∷ []) next) none (byte_found bytes at next n e b.0)
 
--- a byte that stands there is read
+-- the byte at this offset is read
 pub byte_again : (bytes : List ℕ) (at next b : ℕ) (rest : List ℕ) → next ≡ at + 1 → Left bytes at (b ∷ rest)
     → (byte_at bytes at ≡ Ok b) × Left bytes next rest
 byte_again bytes at next b rest e l =
     let p = Left-byte next e l in
     (rw (lt-ltb at (length bytes) p.0, p.1) refl, p.2)
 
--- a word that stands there is read
+-- the encoding of a word is read as the word
 pub word_again : (bytes : List ℕ) (at next n : ℕ) (rest : List ℕ) → next ≡ at + 2 → n < 2 ^ 16 → Left bytes at (word n ++ rest)
     → (word_at bytes at ≡ Ok n) × Left bytes next rest
 word_again bytes at next n rest e lt l =
@@ -92,7 +92,7 @@ word_again bytes at next n rest e lt l =
     let q = Left-byte next (omega arith) p.2 in
     (rw (lt-ltb (at + 1) (length bytes) q.0, p.1, q.1) (ap Ok (from_le_bytes-to_le_bytes_2 n lt)), q.2)
 
--- a long that stands there is read
+-- the encoding of a long is read as the long
 pub long_again : (bytes : List ℕ) (at next n : ℕ) (rest : List ℕ) → next ≡ at + 4 → n < 2 ^ 32 → Left bytes at (long n ++ rest)
     → (long_at bytes at ≡ Ok n) × Left bytes next rest
 long_again bytes at next n rest e lt l =
@@ -102,14 +102,14 @@ long_again bytes at next n rest e lt l =
     let s = Left-byte next (omega arith) r.2 in
     (rw (lt-ltb (at + 3) (length bytes) s.0, p.1, q.1, r.1, s.1) (ap Ok (from_le_bytes-to_le_bytes_4 n lt)), s.2)
 
--- a byte below its limit that stands there is read
+-- the byte below its limit at this offset is read
 pub byte_below_again : (limit : ℕ) (bytes : List ℕ) (at next b : ℕ) (rest : List ℕ) → next ≡ at + 1 → b < limit
     → Left bytes at (b ∷ rest) → (byte_below limit bytes at ≡ Ok b) × Left bytes next rest
 byte_below_again limit bytes at next b rest e lt l =
     let p = byte_again bytes at next b rest e l in
     (rw (p.0, lt-ltb b limit lt) refl, p.1)
 
--- a word below its limit that stands there is read
+-- the encoding of a word below its limit is read as the word
 pub word_below_again : (limit : ℕ) (bytes : List ℕ) (at next n : ℕ) (rest : List ℕ) → next ≡ at + 2 → n < 2 ^ 16
     → n < limit → Left bytes at (word n ++ rest) → (word_below limit bytes at ≡ Ok n) × Left bytes next rest
 word_below_again limit bytes at next n rest e fits lt l =

@@ -1,4 +1,4 @@
--- What stands at an offset of the bytes, and what is left there to be read.
+-- The bytes at an offset, and the bytes that are left to be read there.
 use Rattle.std.proofs.Common.{◌≡◌, ℕ, suc, ◌+◌, ◌*◌, ◌<◌, ◌≤◌, List, [], ◌∷◌, ◌++◌, length, get_or, drop, refl, sym, ap, ◌∙◌, append_assoc, arith}
 use Rattle.std.proofs.lemmas.List.{drop_more, length-drop}
 
@@ -6,7 +6,7 @@ use Rattle.std.proofs.lemmas.List.{drop_more, length-drop}
 pub plus : (at j k : ℕ) → at + (j + k) ≡ at + j + k
 plus at j k = omega arith
 
--- the end of so many things of one width, counted from behind the first
+-- the end of items of one width, counted from the end of the first item
 pub behind_first : (at width n next : ℕ) → next ≡ at + width * suc n → next ≡ at + width + width * n
 behind_first at width n next e = omega arith
 
@@ -18,7 +18,7 @@ no_more at width next e = omega arith
 abbrev pub IsBytes : List ℕ → Type 0
 IsBytes bytes = (i : ℕ) → get_or bytes i 0 < 256
 
--- a text stands from the one offset to the other
+-- a text lies from one offset to the other
 pub record Takes (bytes : List ℕ) (at : ℕ) (text : List ℕ) (next : ℕ) : Type 0 where
   pub parts : drop at bytes ≡ text ++ drop next bytes
 

@@ -1,5 +1,4 @@
--- What the verifier is told at an instruction: what is read is spelled there, and what is
--- spelled there is read.
+-- Reading and encoding the rows and potentials of instructions are inverse.
 use Rattle.std.proofs.Common.{◌≡◌, ℕ, zero, suc, ◌+◌, ◌*◌, ◌≤◌, true, false, List, [], ◌∷◌, ◌++◌, length, map, All, Option, Some, None, Ok, refl, sym, ap, subst, ◌∙◌, append_assoc, arith}
 use Rattle.std.specs.Prelude.{replicate}
 use Rattle.std.specs.List.{flat_map, list_all}
@@ -72,7 +71,7 @@ entry_again bytes at next r p rest e legal row-fits potential-fits l =
 
 -- ---- one of them for each instruction
 
--- points that were read stand there, and have the instructions
+-- the bytes of points that were read are their encoding, and the points have the instructions
 pub points_found : (bytes : List ℕ) → IsBytes bytes → (instrs : List Instr) (at next : ℕ) (points : List Point)
     → next ≡ at + 58 * length instrs → points_at bytes instrs at ≡ Ok points
     → Takes bytes at (flat_map told points) next × (instrs_of points ≡ instrs)
@@ -91,7 +90,7 @@ points_found bytes fits (i ∷ instrs) at next points e h =
     subst (λ (ps : List Point). Takes bytes at (flat_map told ps) next × (instrs_of ps ≡ i ∷ instrs))
     (ok_is (point ∷ others) points h) (takes_more told point others p q.0, ap (λ (is : List Instr). i ∷ is) q.1)))
 
--- a point that stands there with its row is read
+-- the encoding of a point with a row is read as its row and potential
 told_again : (bytes : List ℕ) (at next : ℕ) (o : Option Row) (p : Potential) (rest : List ℕ) → next ≡ at + 58
     → row_stands true o ≡ true → is_given false o ≡ true → GivenFits o → PotentialFits p → Left bytes at ((given o ++ potential p) ++ rest)
     → (r : Row) × (o ≡ Some r) × (entry_at bytes at ≡ Ok (r, p)) × Left bytes next rest
@@ -100,7 +99,7 @@ told_again bytes at next (Some r) p rest e stands legal row-fits potential-fits 
     let read = entry_again bytes at next r p rest e legal row-fits potential-fits l in
     (r, refl, read.0, read.1)
 
--- points that stand there, each with its row, are read, given their instructions
+-- the encoding of points, each with its row, is read as the points, given their instructions
 pub points_again : (most routines instrs : ℕ) (bytes : List ℕ) (points : List Point) (at next : ℕ) (rest : List ℕ)
     → next ≡ at + 58 * length points → rows_stand (replicate most true) points ≡ true
     → list_all (is_point false routines instrs) points ≡ true → All PointFits points → Left bytes at (flat_map told points ++ rest)
@@ -121,7 +120,7 @@ points_again (suc most) routines instrs bytes (point ∷ points) at next rest e 
     let q = points_again most routines instrs bytes points (at + 58) next rest place stands.1 parts.1 (All-tail PointFits point points fits) p.3 in
     (rw (p.2, q.0) (ap (λ (o : Option Row). Ok (record { instr = point.instr; row = o; potential = point.potential } ∷ points)) (sym p.1)), q.1)
 
--- ---- potentials alone
+-- ---- potentials without rows
 
 abbrev pub potential_told : Point → List ℕ
 potential_told point = potential point.potential
@@ -130,7 +129,7 @@ potential_told point = potential point.potential
 abbrev pub stripped : List Point → List Point
 stripped points = map (λ (point : Point). record point { row = None }) points
 
--- points that were read without rows stand there, and have the instructions
+-- the bytes of points that were read without rows encode their potentials, and the points have the instructions
 pub bare_found : (bytes : List ℕ) → IsBytes bytes → (instrs : List Instr) (at next : ℕ) (points : List Point)
     → next ≡ at + 20 * length instrs → bare_points_at bytes instrs at ≡ Ok points
     → Takes bytes at (flat_map potential_told points) next × (instrs_of points ≡ instrs)
@@ -149,7 +148,7 @@ bare_found bytes fits (i ∷ instrs) at next points e h =
     subst (λ (ps : List Point). Takes bytes at (flat_map potential_told ps) next × (instrs_of ps ≡ i ∷ instrs)) (ok_is (point ∷ others) points h)
     (takes_more potential_told point others p q.0, ap (λ (is : List Instr). i ∷ is) q.1)))
 
--- points whose potentials stand there are read without their rows, given their instructions
+-- the encoding of potentials is read as the points without their rows, given their instructions
 pub bare_again : (bytes : List ℕ) (points : List Point) (at next : ℕ) (rest : List ℕ) → next ≡ at + 20 * length points
     → All PointFits points → Left bytes at (flat_map potential_told points ++ rest)
     → (bare_points_at bytes (instrs_of points) at ≡ Ok (stripped points)) × Left bytes next rest

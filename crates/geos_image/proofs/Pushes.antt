@@ -1,4 +1,4 @@
--- One more element at the end of a list that keeps a rule, or that is put out.
+-- One more element at the end of a list that obeys a rule, or that is written.
 use Rattle.std.proofs.Common.{◌≡◌, ◌+◌, Bool, true, false, List, [], ◌∷◌, ◌++◌, ℕ, Option, ◌<◌, ◌≤◌, length, get_or, take, refl, sym, ap, subst, ◌∙◌, append_assoc, arith}
 use Rattle.std.specs.Prelude.{◌&&◌}
 use Rattle.std.specs.List.{list_all, flat_map, All}
@@ -32,7 +32,7 @@ are_routines-more borrows earlier (first ∷ routines) r h k =
     (are_routines-more borrows (earlier ++ first ∷ []) routines r parts.1
     (ap (λ rs. is_routine borrows rs r) (append_assoc earlier (first ∷ []) routines) ∙ k))
 
--- a routine that may stand behind those that do
+-- a legal routine at the end of legal routines
 pub are_routines-push : (borrows : Bool) (routines : List Routine) (r : Routine) → are_routines borrows [] routines ≡ true
     → is_routine borrows routines r ≡ true → are_routines borrows [] (routines ++ r ∷ []) ≡ true
 are_routines-push borrows routines r h k = are_routines-more borrows [] routines r h k
@@ -63,14 +63,14 @@ points-push borrows routines instrs code front k d row potential lt so_far legal
     list_all-push (is_point borrows routines instrs) front (record { instr = get_or code k d; row = row; potential = potential })
     (so_far two.0) (both (p (get_or code k d)) (is_given borrows row) here.0 legal)
 
--- the bytes of one more element stand behind those of the elements before it
+-- the bytes of one more element follow those of the elements before it
 pub puts-more : {A : Type 0} (f : A → List ℕ) (xs : List A) (k : ℕ) (d : A) (start old new : List ℕ) → k < length xs
     → old ≡ start ++ flat_map f (take k xs) → new ≡ old ++ f (get_or xs k d) → new ≡ start ++ flat_map f (take (k + 1) xs)
 puts-more f xs k d start old new lt so_far more =
     more ∙ ap (λ front. front ++ f (get_or xs k d)) so_far ∙ flat_map_more f start (take k xs) (get_or xs k d)
     ∙ ap (λ front. start ++ flat_map f front) (sym (take_more xs k d lt))
 
--- no element's bytes stand there yet
+-- no element is written yet
 pub puts-none : {A : Type 0} (f : A → List ℕ) (start : List ℕ) → start ≡ start ++ flat_map f []
 puts-none f start = sym (append-nil start)
 

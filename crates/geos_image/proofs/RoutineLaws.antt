@@ -1,5 +1,4 @@
--- The header and the routines: what is read is spelled there, and what is spelled there is
--- read.
+-- Reading and encoding the header and the routines are inverse.
 use Rattle.std.proofs.Common.{◌≡◌, ℕ, zero, suc, ◌+◌, ◌*◌, ◌<◌, ◌≤◌, Bool, true, false, List, [], ◌∷◌, ◌++◌, length, take, drop, All, Ok, refl, sym, ap, subst, ◌∙◌, append_assoc, lit<, arith}
 use Rattle.std.specs.Prelude.{◌==◌, ◌&&◌, not, nat_lt, nat_le}
 use Rattle.std.specs.List.{flat_map}
@@ -132,7 +131,7 @@ routine_again borrows earlier bytes at next r rest e legal room fits l =
 
 -- ---- routines
 
--- routines that were read stand there, behind the earlier ones
+-- the bytes of routines that were read are their encoding; the result has the earlier routines first
 pub routines_found : (borrows : Bool) (bytes : List ℕ) → IsBytes bytes → (n at next : ℕ) (earlier routines : List Routine)
     → next ≡ at + 100 * n → routines_at borrows bytes n at earlier ≡ Ok routines
     → (more : List Routine) × (routines ≡ earlier ++ more) × (length more ≡ n) × Takes bytes at (flat_map routine more) next
@@ -147,7 +146,7 @@ routines_found borrows bytes fits (suc n) at next earlier routines e h =
     let q = routines_found borrows bytes fits n (at + 100) next (earlier ++ r ∷ []) routines place h in
     (r ∷ q.0, q.1 ∙ append_assoc earlier (r ∷ []) q.0, ap suc q.2, takes_more routine r q.0 p q.3))
 
--- routines that stand there are read, behind the earlier ones
+-- the encoding of routines is read as the routines; the result has the earlier routines first
 pub routines_again : (borrows : Bool) (bytes : List ℕ) (more : List Routine) (n at next : ℕ) (earlier : List Routine) (rest : List ℕ)
     → length more ≡ n → next ≡ at + 100 * n → are_routines borrows earlier more ≡ true → total_count earlier + total_count more ≤ 4096
     → All RoutineFits more → Left bytes at (flat_map routine more ++ rest) → (routines_at borrows bytes n at earlier ≡ Ok (earlier ++ more))

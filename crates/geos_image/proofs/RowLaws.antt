@@ -1,4 +1,4 @@
--- Rows: what is read is spelled there, and what is spelled there is read.
+-- Reading and encoding rows are inverse.
 use Rattle.std.proofs.Common.{◌≡◌, ℕ, zero, suc, Result, ◌+◌, ◌*◌, ◌^◌, ◌<◌, ◌≤◌, Bool, true, false, cond, List, [], ◌∷◌, ◌++◌, length, map, take, drop, All, Option, Some, None, Ok, refl, sym, ap, subst, ◌∙◌, inl, inr, lit<, arith}
 use Rattle.std.specs.Prelude.{◌==◌, ◌||◌, ◌&&◌, nat_lt, nat_le, nat_eq}
 use Rattle.std.specs.Cmp.Lexicographic.{pointwise, bytes_decides}
@@ -80,7 +80,7 @@ pointer_is bytes at next slot least p known below made takes =
           (subst (λ (k : ℕ). Takes bytes at (255 ∷ 0 ∷ word k) next) none (subst (λ (k : ℕ). Takes bytes at (k ∷ 0 ∷ word least) next) stale takes))
     ]
 
--- a pointer that was read stands there
+-- the bytes of a pointer that was read are its encoding
 pointer_found : (bytes : List ℕ) → IsBytes bytes → (at next : ℕ) (p : Option Pointer) → next ≡ at + 4
     → pointer_at bytes at ≡ Ok p → Takes bytes at (pointer p) next
 unfolding pointer_at
@@ -124,7 +124,7 @@ one_pair false false m n e = (refl, omega arith)
 one_pair true false m n e = absurd (omega arith)
 one_pair false true m n e = absurd (omega arith)
 
--- a byte spells the pairs one way
+-- two lists of pairs with the same byte are equal
 same_pairs : (xs ys : List Bool) → length xs ≡ length ys → pairs_byte xs ≡ pairs_byte ys → xs ≡ ys
 same_pairs [] [] len e = refl
 same_pairs [] (y ∷ ys) len e = absurd (omega arith)
@@ -149,7 +149,7 @@ pairs_again pairs len =
 
 -- ---- rows
 
--- a row that was read stands there
+-- the bytes of a row that was read are its encoding
 pub row_found : (borrows : Bool) (bytes : List ℕ) → IsBytes bytes → (at next : ℕ) (r : Row) → next ≡ at + 38
     → row_at borrows bytes at ≡ Ok r → Takes bytes at (row r) next
 unfolding row_at
@@ -205,7 +205,7 @@ both_all (p ∷ pointers) legal fits =
     All-cons (λ q. (is_pointer q ≡ true) × PointerFits q) p pointers (parts.0, All-head PointerFits p pointers fits)
     (both_all pointers parts.1 (All-tail PointerFits p pointers fits))
 
--- a row that stands there is read
+-- the encoding of a row is read as the row
 pub row_again : (borrows : Bool) (bytes : List ℕ) (at next : ℕ) (r : Row) (rest : List ℕ) → next ≡ at + 38
     → is_row borrows r ≡ true → RowFits r → Left bytes at (row r ++ rest) → (row_at borrows bytes at ≡ Ok r) × Left bytes next rest
 unfolding row_at
@@ -276,7 +276,7 @@ row_fits borrows bytes fits at r h =
 
 -- ---- bytes that are the same
 
--- where the bytes at two offsets are the same, the row of the one stands at the other
+-- if the bytes at two offsets are the same, the row that is read at the first is also read at the second
 pub row_alike : (borrows : Bool) (bytes : List ℕ) → IsBytes bytes → (before at : ℕ) (r : Row) → before ≤ at → is_row borrows r ≡ true
     → are_same bytes before at ≡ true → row_at borrows bytes before ≡ Ok r → row_at borrows bytes at ≡ Ok r
 row_alike borrows bytes fits before at r order legal alike read =

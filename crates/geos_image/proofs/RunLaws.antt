@@ -1,5 +1,4 @@
--- Things of one width: a run that is read is spelled there, and a run that is spelled there is
--- read.
+-- Reading and encoding runs of items of one width are inverse.
 use Rattle.std.proofs.Common.{◌≡◌, ℕ, zero, suc, ◌+◌, ◌*◌, List, [], ◌∷◌, ◌++◌, length, All, Result, Ok, refl, sym, ap, subst, ◌∙◌, append_assoc, arith}
 use Rattle.std.specs.List.{flat_map}
 use Rattle.std.proofs.lemmas.List.Elements.{All-head, All-tail}
@@ -8,7 +7,7 @@ use Rattle.geos_image.specs.Reading.{items_at}
 use Rattle.geos_image.proofs.Steps.{ok_is, after}
 use Rattle.geos_image.proofs.Places.{behind_first, no_more, Takes, Takes-none, Takes-then, Left, Left-as}
 
--- what is spelled one after another stands there
+-- the encoding of an item, followed by that of the others
 pub takes_more : {X : Type 0} {bytes : List ℕ} {at mid next : ℕ} (text : X → List ℕ) (x : X) (xs : List X)
     → Takes bytes at (text x) mid → Takes bytes mid (flat_map text xs) next → Takes bytes at (flat_map text (x ∷ xs)) next
 takes_more {bytes = bytes} {at = at} {next = next} text x xs p q = subst (λ (t : List ℕ). Takes bytes at t next)
@@ -20,11 +19,11 @@ pub left_more : {X : Type 0} {bytes : List ℕ} {at : ℕ} (text : X → List �
 left_more text x xs rest l = Left-as (ap (λ (t : List ℕ). t ++ rest) (flat_map-cons text x xs) ∙ append_assoc (text x) (flat_map text xs) rest) l
 
 module _ {A : Type 0} (bytes : List ℕ) (read : ℕ → Result A ℕ) (text : A → List ℕ) (width : ℕ) where
-  -- each one that is read stands there
+  -- the bytes of each item that is read are its encoding
   abbrev pub Founds : Type 0
   Founds = (at next : ℕ) (x : A) → next ≡ at + width → read at ≡ Ok x → Takes bytes at (text x) next
 
-  -- a run that was read stands there
+  -- the bytes of a run that was read are its encoding
   pub items_found : Founds → (n at next : ℕ) (xs : List A) → next ≡ at + width * n → items_at read width n at ≡ Ok xs
       → Takes bytes at (flat_map text xs) next × (length xs ≡ n)
   items_found found zero at next xs e h =
@@ -41,12 +40,12 @@ module _ {A : Type 0} (bytes : List ℕ) (read : ℕ → Result A ℕ) (text : A
       subst (λ (ys : List A). Takes bytes at (flat_map text ys) next × (length ys ≡ suc n)) (ok_is (first ∷ others) xs h)
       (takes_more text first others p q.0, ap suc q.1)))
 
-  -- each one that keeps the rule and stands there is read
+  -- the encoding of each item that obeys the rule is read as the item
   abbrev pub Agains : (A → Type 0) → Type 0
   Agains P = (at next : ℕ) (x : A) (rest : List ℕ) → next ≡ at + width → P x → Left bytes at (text x ++ rest)
       → (read at ≡ Ok x) × Left bytes next rest
 
-  -- a run that stands there is read
+  -- the encoding of a run is read as the run
   pub items_again : (P : A → Type 0) → Agains P → (xs : List A) (n at next : ℕ) (rest : List ℕ) → length xs ≡ n
       → next ≡ at + width * n → All P xs → Left bytes at (flat_map text xs ++ rest)
       → (items_at read width n at ≡ Ok xs) × Left bytes next rest

@@ -1,4 +1,4 @@
--- Slots: the state that a byte spells, by tests of the byte.
+-- The slot state that a byte encodes, found by tests of the byte.
 use Rattle.std.proofs.Common.{◌≡◌, ℕ, ◌<◌, Bool, true, false, Option, Some, None, refl, sym, ap, ◌∙◌}
 use Rattle.std.specs.Prelude.{◌==◌, ◌||◌, ◌&&◌, nat_lt, if◌then◌else◌}
 use Rattle.std.proofs.lemmas.Bool.{eqb-true, agree_below_at}
@@ -48,7 +48,7 @@ same_is None None h = refl
 same_is (Some s) None h = absurd cc
 same_is None (Some t) h = absurd cc
 
--- the state that a byte spells is the one that it names
+-- the tests find the state that a byte encodes
 pub slot_is_named : (borrows : Bool) (code : ℕ) → code < 256 → slot_of borrows code ≡ named_slot borrows code
 slot_is_named true code lt =
     same_is _ _ (agree_below_at (λ k. same (slot_of true k) (named_slot true k)) (λ _. true) 256 code refl lt)

@@ -10,12 +10,12 @@ done x = Ok x
 pub ok_is : {A : Type 0} (x y : A) → done x ≡ done y → x ≡ y
 ok_is x y e = cc
 
--- what follows from the value of a step, and from what the steps behind it gave, follows
+-- if two steps succeed together, both the first one and the second one succeeded
 pub after : {A B C : Type 0} (r : Result A ℕ) (f : A → Result B ℕ) (y : B) → (r >>= f) ≡ Ok y → ((x : A) → r ≡ Ok x → f x ≡ Ok y → C) → C
 after (Ok x) f y e then = then x refl e
 after (Err at) f y e then = absurd cc
 
--- a test held
+-- the test of a guard that passed is true
 pub guard_ok : (at : ℕ) (b : Bool) (u : Unit {0}) → guard at b ≡ Ok u → b ≡ true
 guard_ok at true u e = refl
 guard_ok at false u e = absurd cc

@@ -1,5 +1,5 @@
--- The key places of code: the first place of each routine, each place to which an instruction may lead by its
--- label, and each one behind an instruction from which control never goes on.
+-- The key places of code: the first pc of each routine, each pc that is the target of an instruction, and each pc
+-- after an instruction that never falls through.
 use Rattle.std.specs.Prelude.{ℕ, ◌+◌, Bool, true, false, if◌then◌else◌, List, [], ◌∷◌, ◌++◌, replicate, slice_set, slice_index_or, Option, Some, None, slice_get}
 use Rattle.geos_opcodes.specs.declared.opcode.Opcode.{Opcode}
 use Rattle.geos_opcodes.specs.declared.opcode.Operand.{Operand}
@@ -33,7 +33,7 @@ is_label _ = false
 abbrev pub branches : Opcode → Bool
 branches opcode = is_label (operands_of opcode).target
 
--- where routines begin, the first of them at a pc
+-- the pcs at which routines start, if the first one starts at `at`
 abbrev pub starts_from : ℕ → List Routine → List ℕ
 starts_from at [] = []
 starts_from at (r ∷ routines) = at ∷ starts_from (at + r.count) routines
@@ -42,16 +42,16 @@ starts_from at (r ∷ routines) = at ∷ starts_from (at + r.count) routines
 abbrev pub target_key : Instr → List ℕ
 target_key i = if branches i.opcode then i.target ∷ [] else []
 
--- the place behind the instruction at a pc, where control does not go on there
+-- the pc after the instruction, if the instruction never falls through
 abbrev pub cut_key : ℕ → Instr → List ℕ
 cut_key pc i = if falls_through i.opcode then [] else (pc + 1) ∷ []
 
--- those of instructions that stand from a pc on
+-- the key places that the instructions from a pc on make
 abbrev pub keys_from : ℕ → List Instr → List ℕ
 keys_from pc [] = []
 keys_from pc (i ∷ instrs) = target_key i ++ (cut_key pc i ++ keys_from (pc + 1) instrs)
 
--- flags with those of such places set
+-- the flags, with those of the places set
 abbrev pub flagged : List ℕ → List Bool → List Bool
 flagged [] flags = flags
 flagged (place ∷ places) flags = flagged places (slice_set flags place true)
@@ -60,7 +60,7 @@ flagged (place ∷ places) flags = flagged places (slice_set flags place true)
 abbrev pub key_flags : List Routine → List Instr → List Bool
 key_flags routines instrs = flagged (keys_from 0 instrs) (flagged (starts_from 0 routines) (replicate 4096 false))
 
--- a row stands where there is a flag, and nowhere else
+-- there is a row exactly if the flag is set
 abbrev pub row_stands : Bool → Option Row → Bool
 row_stands true (Some row) = true
 row_stands false None = true
@@ -101,7 +101,7 @@ flag_count [] (i ∷ instrs) = 0
 flag_count (false ∷ flags) (i ∷ instrs) = flag_count flags instrs
 flag_count (true ∷ flags) (i ∷ instrs) = flag_count flags instrs + 1
 
--- the image in version 2: it gives the same rows, at its key places alone
+-- the image in version 2: it has the same rows, but only at its key places
 abbrev pub keyed_of : Parts → Parts
 keyed_of image = record {
   keyed = true;

@@ -42,7 +42,7 @@ abbrev pub is_own : SlotState → Bool
 is_own (Vm marked borrowed) = not borrowed
 is_own _ = true
 
--- a row of such a shape whose pointers lead into slots; its slots may be borrowed or else may not
+-- the row has the right shape, its pointers lead into slots, and it has borrowed slots only if `borrows`
 abbrev pub is_row : Bool → Row → Bool
 is_row borrows row = (borrows || list_all is_own row.slots) && is_shaped row && list_all is_pointer row.pointers
 
@@ -63,7 +63,7 @@ abbrev pub is_given : Bool → Option Row → Bool
 is_given borrows None = true
 is_given borrows (Some row) = is_row borrows row
 
--- an instruction and a row that may stand in such an image
+-- the instruction and the row of a point are legal in an image with so many routines and instructions
 abbrev pub is_point : Bool → ℕ → ℕ → Point → Bool
 is_point borrows routines instrs point = is_instr routines instrs point.instr && is_given borrows point.row
 
@@ -76,8 +76,8 @@ LegalWhere borrows code points = (routines instrs : ℕ) → list_all (is_instr 
 abbrev pub is_named : List ℕ → List Routine → Bool
 is_named name routines = list_any (λ r. pointwise nat_eq r.name name) routines
 
--- a routine behind those before it: its name is one, and none of theirs, and it has
--- instructions
+-- a routine is legal after the earlier ones: its name is legal and different from theirs, it has instructions, and
+-- its entry and exit rows are legal
 abbrev pub is_routine : Bool → List Routine → Routine → Bool
 is_routine borrows earlier r =
     is_name r.name
@@ -86,12 +86,12 @@ is_routine borrows earlier r =
     && is_row borrows r.entry
     && is_row borrows r.exit
 
--- each of the routines, behind those before it
+-- each routine is legal after the earlier ones
 abbrev pub are_routines : Bool → List Routine → List Routine → Bool
 are_routines borrows earlier [] = true
 are_routines borrows earlier (r ∷ routines) = is_routine borrows earlier r && are_routines borrows (earlier ++ r ∷ []) routines
 
--- a row stands at each point that is flagged, and at no other
+-- exactly the flagged points have rows
 abbrev pub rows_stand : List Bool → List Point → Bool
 rows_stand flags [] = true
 rows_stand [] (point ∷ points) = false
@@ -101,8 +101,8 @@ rows_stand (flag ∷ flags) (point ∷ points) = row_stands flag point.row && ro
 abbrev pub row_flags : Bool → List Routine → List Point → List Bool
 row_flags keyed routines points = if keyed then key_flags routines (instrs_of points) else replicate 4096 true
 
--- 1 to 32 routines, and a point for each of their instructions, at most 4,096, with the rows that the image is to
--- give; slots may be borrowed or else may not
+-- 1 to 32 routines, and a point for each of their instructions, at most 4,096, with the rows that the version
+-- requires; slots may be borrowed only if `borrows`
 abbrev pub is_formed : Bool → Parts → Bool
 is_formed borrows image =
     nat_lt 0 (length image.routines)
@@ -113,7 +113,7 @@ is_formed borrows image =
     && list_all (is_point borrows (length image.routines) (length image.points)) image.points
     && rows_stand (row_flags image.keyed image.routines image.points) image.points
 
--- so formed, with borrowed slots in version 2 alone
+-- the image is legal; only in version 2 may slots be borrowed
 abbrev pub is_image : Parts → Bool
 is_image image = is_formed image.keyed image
 

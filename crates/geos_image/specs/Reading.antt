@@ -1,4 +1,4 @@
--- What bytes spell, with the offset of the first field that is cut or breaks its rule.
+-- Reading an image from bytes. A failure has the offset of the first field that is cut or breaks its rule.
 use Rattle.std.specs.Prelude.{◌≡◌, ℕ, zero, suc, ◌+◌, ◌*◌, ◌/◌, ◌%◌, Bool, true, false, ◌&&◌, ◌||◌, not, nat_lt, nat_le, nat_eq, ◌==◌, if◌then◌else◌, List, [], ◌∷◌, ◌++◌, length, take, drop, Option, Some, None, Result, Ok, Err, slice_index, find}
 use Rattle.std.specs.Cmp.Lexicographic.{pointwise}
 use Rattle.std.specs.Int.{w16, w32, from_le_bytes}
@@ -19,7 +19,7 @@ use Rattle.geos_image.specs.Keys.{key_flags, with_rows, flag_count}
 use Rattle.geos_image.specs.Legal.{is_own, is_name, is_named}
 use Rattle.geos_image.specs.Spelling.{magic, slot_code}
 
--- reading goes on with what was read, and stops at the first fault
+-- passes what was read to the next reader, or returns the first fault
 infixl 10 ◌>>=◌
 abbrev pub ◌>>=◌ : {A B : Type 0} → Result A ℕ → (A → Result B ℕ) → Result B ℕ
 (Ok x) >>= f = f x
@@ -53,7 +53,7 @@ long_at bytes at = if nat_lt (at + 3) (length bytes)
     then Ok (from_le_bytes w32 (slice_index bytes at ∷ slice_index bytes (at + 1) ∷ slice_index bytes (at + 2) ∷ slice_index bytes (at + 3) ∷ []))
     else Err at
 
--- a number that breaks its rule is a fault where it stands
+-- a number that breaks its rule is a fault at the offset of the number
 abbrev pub below : ℕ → ℕ → Result ℕ ℕ → Result ℕ ℕ
 below limit at number = do
   n ← number
@@ -100,7 +100,7 @@ instr_at routines instrs bytes at = do
 abbrev pub slot_states : List SlotState
 slot_states = Empty ∷ Mem ∷ Vm false false ∷ Vm true false ∷ Db false ∷ Db true ∷ Vm false true ∷ Vm true true ∷ []
 
--- the state that a byte spells, where slots may be borrowed or else may not
+-- the slot state that a byte encodes; a borrowed state only if `borrows`
 abbrev pub slot_of : Bool → ℕ → Option SlotState
 slot_of borrows code = find (λ state. slot_code state == code && (borrows || is_own state)) slot_states
 
@@ -123,7 +123,7 @@ pointer_at bytes at = do
 abbrev pub pairs_of : ℕ → List Bool
 pairs_of n = (n % 2 == 1) ∷ (n / 2 % 2 == 1) ∷ (n / 4 % 2 == 1) ∷ (n / 8 % 2 == 1) ∷ (n / 16 % 2 == 1) ∷ (n / 32 % 2 == 1) ∷ []
 
--- a row: eight bounds, four slots, four pointers, the pairs, and 0; its slots may be borrowed or else may not
+-- a row: eight bounds, four slots, four pointers, the pairs, and 0; slots may be borrowed only if `borrows`
 unfoldable pub row_at : Bool → List ℕ → ℕ → Result Row ℕ
 row_at borrows bytes at = do
   bounds ← items_at (word_at bytes) 2 8 at
@@ -153,7 +153,7 @@ count_at earlier bytes at = do
   in_range ← guard at (nat_lt 0 count && nat_le (total_count earlier + count) 4096)
   Ok count
 
--- a routine behind those before it
+-- a routine that follows the earlier ones
 unfoldable pub routine_at : Bool → List Routine → List ℕ → ℕ → Result Routine ℕ
 routine_at borrows earlier bytes at = do
   name ← name_at earlier bytes at
@@ -165,14 +165,14 @@ routine_at borrows earlier bytes at = do
   exit ← row_at borrows bytes (at + 62)
   Ok (record { name = name; public = public == 1; count = count; budget = budget; entry = entry; exit = exit })
 
--- so many more routines behind those before them
+-- n more routines, which follow the earlier ones
 unfoldable pub routines_at : Bool → List ℕ → ℕ → ℕ → List Routine → Result (List Routine) ℕ
 routines_at borrows bytes zero at earlier = Ok earlier
 routines_at borrows bytes (suc n) at earlier = do
   r ← routine_at borrows earlier bytes at
   routines_at borrows bytes n (at + 100) (earlier ++ r ∷ [])
 
--- what the verifier is told at an instruction, in version 1
+-- the row and the potential of an instruction, in version 1
 unfoldable pub entry_at : List ℕ → ℕ → Result (Row × Potential) ℕ
 entry_at bytes at = do
   row ← row_at false bytes at
@@ -205,14 +205,14 @@ bare_points_at bytes (i ∷ instrs) at = do
   others ← bare_points_at bytes instrs (at + 20)
   Ok (record { instr = i; row = None; potential = potential } ∷ others)
 
--- where rows and potentials stand for each instruction, from an offset on, and nothing behind them
+-- version 1: a row and a potential for each instruction, from an offset to the end of the bytes
 unfoldable pub whole_at : List ℕ → List Routine → List Instr → ℕ → Result Parts ℕ
 whole_at bytes routines instrs at = do
   points ← points_at bytes instrs at
   ended ← guard (at + 58 * length instrs) (length bytes == at + 58 * length instrs)
   Ok (record { keyed = false; routines = routines; points = points })
 
--- where potentials stand for each instruction, then rows for the key places, and nothing behind them
+-- version 2: a potential for each instruction, then the rows of the key places, to the end of the bytes
 unfoldable pub keyed_at : List ℕ → List Routine → List Instr → ℕ → Result Parts ℕ
 keyed_at bytes routines instrs at =
     let flags = key_flags routines instrs in
@@ -228,7 +228,7 @@ abbrev pub rest_at : Bool → List ℕ → List Routine → List Instr → ℕ �
 rest_at false bytes routines instrs at = whole_at bytes routines instrs at
 rest_at true bytes routines instrs at = keyed_at bytes routines instrs at
 
--- the image that the bytes spell
+-- the image that the bytes encode
 unfoldable pub image_at : List ℕ → Result Parts ℕ
 image_at bytes = do
   head ← header_at bytes
@@ -236,17 +236,17 @@ image_at bytes = do
   instrs ← items_at (instr_at head.1 (total_count routines) bytes) 10 (total_count routines) (8 + 100 * head.1)
   rest_at head.0 bytes routines instrs (8 + 100 * head.1 + 10 * total_count routines)
 
--- the fault that reading names, or want of memory
+-- reading fails with this error: the offset is that of the fault in the bytes, or memory ran out
 abbrev pub Fails : {Y : Type 0} → ReadError → Result Y ℕ → Type 0
 Fails Memory read = Unit {0}
 Fails (BadImage at) read = read ≡ Err at
 
--- the function gives what reading gives: the value as it is viewed, or the fault
+-- the function returns what reading returns: the value, as `view` sees it, or the fault
 abbrev pub Gives : {X Y : Type 0} → (X → Y) → Result X ReadError → Result Y ℕ → Type 0
 Gives view (Ok x) read = read ≡ Ok (view x)
 Gives view (Err e) read = Fails e read
 
--- the function puts what reading gives into its place, or gives the fault
+-- the function writes what reading returns to its place, or returns the fault
 abbrev pub Puts : {X Y : Type 0} → Result X ℕ → Y → Result Y ℕ → Type 0
 Puts (Ok done) place read = read ≡ Ok place
 Puts (Err at) place read = read ≡ Err at

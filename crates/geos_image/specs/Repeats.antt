@@ -6,16 +6,16 @@ use Rattle.std.specs.Global.{Global}
 use Rattle.geos_image.specs.declared.point.Point.{Point}
 use Rattle.geos_image.specs.declared.row.Row.{Row}
 
--- the bytes of a row stand at both offsets, and are the same
+-- the bytes of a row are at both offsets, and they are equal
 abbrev pub are_same : List ℕ → ℕ → ℕ → Bool
 are_same bytes before at = nat_le (at + 38) (length bytes) && pointwise nat_eq (take 38 (drop before bytes)) (take 38 (drop at bytes))
 
--- the place behind the pc, if there is one, is given a row, and the pc is given that row
+-- if there is a next pc, it has a row, and the row at this pc is the same
 abbrev pub IsRepeated : List Point → ℕ → Type 0
 IsRepeated points pc =
     IfSome (slice_get points (pc + 1)) (λ next. (is_some next.row ≡ true) × IfSome (slice_get points pc) (λ here. here.row ≡ next.row))
 
--- each place behind another that is flagged is given a row, which that one is given
+-- each flagged pc after the first has the same row as the pc before it
 abbrev pub AreRepeats : List Bool → List Point → Type 0
 AreRepeats flags points = (pc : ℕ) → slice_index_or flags (pc + 1) false ≡ true → IsRepeated points pc
 
@@ -23,7 +23,7 @@ AreRepeats flags points = (pc : ℕ) → slice_index_or flags (pc + 1) false ≡
 abbrev pub AreNoted : Option (Vec Bool Global) → List Point → Type 0
 AreNoted repeats points = IfSome repeats (λ flags. (length flags.items ≡ length points) × AreRepeats flags.items points)
 
--- each row behind another that is flagged is that one
+-- each flagged row after the first equals the row before it
 abbrev pub AreAlike : List Bool → List Row → Type 0
 AreAlike flags rows =
     (k : ℕ) → slice_index_or flags (k + 1) false ≡ true → IfSome (slice_get rows (k + 1)) (λ next. slice_get rows k ≡ Some next)
@@ -44,6 +44,6 @@ flag_before flags (suc pc) = slice_index_or flags pc false
 abbrev pub is_repeat : List Bool → List Bool → ℕ → Bool
 is_repeat flags alike pc = flag_before flags pc && slice_index_or flags pc false && slice_index_or alike (flags_before flags pc) false
 
--- of so many places just the repeats are flagged
+-- of the first `count` places exactly the repeats are flagged
 abbrev pub RepeatsBy : List Bool → List Bool → ℕ → List Bool → Type 0
 RepeatsBy flags alike count repeats = (pc : ℕ) → pc < count → slice_index_or repeats pc false ≡ is_repeat flags alike pc

@@ -63,7 +63,7 @@ potential p = long p.constant ++ flat_map long p.coefficients
 abbrev pub routine : Routine → List ℕ
 routine r = r.name ++ (flag r.public ∷ 0 ∷ []) ++ word r.count ++ long r.budget ++ row r.entry ++ row r.exit
 
--- the version: 2 where rows are given at key places alone
+-- the version: 2 if rows are given only at key places
 abbrev pub version : Bool → ℕ
 version false = 1
 version true = 2
@@ -73,7 +73,7 @@ abbrev pub given : Option Row → List ℕ
 given None = []
 given (Some r) = row r
 
--- what is told at a point
+-- the bytes of the row and the potential of a point
 abbrev pub told : Point → List ℕ
 told point = given point.row ++ potential point.potential
 
@@ -82,8 +82,7 @@ abbrev pub rest : Bool → List Point → List ℕ
 rest false points = flat_map told points
 rest true points = flat_map (λ (point : Point). potential point.potential) points ++ flat_map (λ (point : Point). given point.row) points
 
--- `GRT1`, the version, the number of routines, the routines, the instructions, and what is told at
--- each
+-- `GRT1`, the version, the number of routines, the routines, the instructions, and the rows and potentials
 abbrev pub spelling : Parts → List ℕ
 spelling image =
     magic ++ word (version image.keyed) ++ word (length image.routines)

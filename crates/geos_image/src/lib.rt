@@ -14,6 +14,7 @@ mod potential;
 mod reader;
 mod routine;
 mod row;
+mod table;
 mod whole;
 mod writer;
 
@@ -28,5 +29,6 @@ pub use potential::Potential;
 pub use reader::read;
 pub use routine::Routine;
 pub use row::{Pointer, Row, SlotState};
+pub use table::{Table, two_tables};
 pub use whole::Whole;
 pub use writer::write;

@@ -7,7 +7,7 @@ use crate::legal::text_end;
 use crate::row::Row;
 
 /// A routine of an image. Its instructions follow those of the routine before it.
-#[derive(Clone, Copy, Debug, PartialEq, Eq)]
+#[derive(Clone, Copy)]
 pub struct Routine {
     /// 1 to 16 letters, digits and underscores, the first a letter; then zeros.
     pub name: [u8; 16],

@@ -7,7 +7,7 @@ ghost use Rattle.geos_image.specs.Spelling.{slot_code};
 ghost use Rattle.geos_image.specs.Reading.{slot_of};
 
 /// What a row says of a slot.
-#[derive(Clone, Copy, Debug, PartialEq, Eq)]
+#[derive(Clone, Copy, PartialEq, Eq)]
 pub enum SlotState {
     /// It holds nothing.
     Empty,
@@ -75,7 +75,7 @@ impl SlotState {
 }
 
 /// What a row says of a pointer that is not stale.
-#[derive(Clone, Copy, Debug, PartialEq, Eq)]
+#[derive(Clone, Copy, PartialEq, Eq)]
 pub struct Pointer {
     /// The slot whose block it leads into, 0 to 3.
     pub slot: u8,
@@ -84,7 +84,7 @@ pub struct Pointer {
 }
 
 /// An entry state: what is known of the registers before an instruction.
-#[derive(Clone, Copy, Debug, PartialEq, Eq)]
+#[derive(Clone, Copy, PartialEq, Eq)]
 pub struct Row {
     /// The words w0 to w7 are at most these.
     pub bounds: [u16; 8],

@@ -1,4 +1,4 @@
--- What is answered of routines with loops: the constants are the least, and pay, and the coefficients are wanted for LOOPs.
+-- The result for routines with loops: the constants pay and are the least, and LOOPs require the coefficients.
 use Rattle.std.proofs.Common.{◌≡◌, ◌≤◌, ◌<◌, ℕ, Bool, true, false, List, [], ◌∷◌, length, Option, Some, None, slice_get, refl, sym, ap, ◌∙◌, subst, arith, inl, inr}
 use Rattle.std.specs.Prelude.{slice_index}
 use Rattle.geos_opcodes.specs.declared.opcode.Opcode.{Opcode}
@@ -108,7 +108,7 @@ module _ (image : Parts) (legal : is_image image ≡ true) (known : List (Option
       let constant : point.potential.constant ≡ slice_index numbers.steps pc = ap (λ (x : Point). x.potential.constant) is in
       omega (arith, less, constant)
 
-  -- an edge that asks for a coefficient does in what is answered
+  -- an edge that requires a coefficient does so in the result too
   asking-made : (r k pc to : ℕ) (branch : Bool) → LeadsAsking image r k pc branch to → LeadsAsking made r k pc branch to
   asking-made r k pc to branch A = record {
     leads = record { point = _; there = P.each pc A.leads.point A.leads.there; has = A.leads.has; leads = A.leads.leads };
@@ -120,7 +120,7 @@ module _ (image : Parts) (legal : is_image image ≡ true) (known : List (Option
   way-made r k [] from to way = way
   way-made r k (branch ∷ branches) from to way = (way.0, asking-made r k from way.0 branch way.1, way-made r k branches way.0 to way.2)
 
-  -- so its coefficients are wanted for LOOPs
+  -- so LOOPs require the coefficients of the result
   pub for-given : AreLeastFrom image 0 (length image.routines) known numbers → HasCoefficientsForLoops made
   for-given least r lt loops pc k within some =
       let wanted = (least r (omega arith) lt (loops-same r loops)).2 in

@@ -1,4 +1,4 @@
--- What may stand where no slot is borrowed may stand where slots may be.
+-- What is legal without borrowed slots is legal with them.
 use Rattle.std.proofs.Common.{◌≡◌, Bool, true, false, List, [], ◌∷◌, ◌++◌}
 use Rattle.std.specs.Prelude.{◌&&◌, not, nat_lt}
 use Rattle.std.specs.List.{list_all}

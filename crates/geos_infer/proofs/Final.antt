@@ -5,7 +5,7 @@ use Rattle.geos_image.specs.Keys.{branches}
 use Rattle.geos_image.specs.Parts.{Parts}
 use Rattle.geos_counters.specs.Idle.{LeadsUnpaid, IsUnpaidWay, GoesRound, LeadsIdle, IsIdleWay, IsNeverPaid}
 use Rattle.geos_infer.specs.Refusals.{NoneIsAcceptedFor}
-use Rattle.geos_causes.specs.declared.cause.Cause.TheVariants.{NoLoop, TouchedWithin, TouchedBefore, NotSet, StepsPass, WordUnbounded, NumberHigh}
+use Rattle.geos_flow.specs.declared.cause.Cause.TheVariants.{NoLoop, TouchedWithin, TouchedBefore, NotSet, StepsPass, WordUnbounded, NumberHigh}
 use Rattle.geos_infer.proofs.Past.{words-none, none-accepted-past}
 use Rattle.geos_potentials.proofs.Unpayable.{none-accepted-round}
 

@@ -92,7 +92,7 @@ module _ (image : Parts) (known : List (Option Row)) (numbers : Numbers) (points
     clean = λ pc row within given e. subst (λ (x : Row). names_empty_slot x ≡ false) (row-at pc row e) (row-clean (known_at known pc));
   }
 
--- What the verifier says of such rows
+-- If rows hold, the verifier's rules on rows pass
 
 module _ (image : Parts) (r pc : ℕ) (routine : Routine) (point : Place) (holds : HoldWhereReached image r (rows_of image))
     (reached : IsReached image r pc) (at : HasPoint image r routine pc point) where

@@ -10,7 +10,7 @@ use Rattle.geos_verify.specs.Places.{places}
 use Rattle.geos_verify.specs.Rows.{bound}
 use Rattle.geos_verify.proofs.Places.{item_at}
 use Rattle.geos_verify.proofs.RowsFit.{fits-refl, fits-trans}
-use Rattle.geos_semantics.specs.Lists.{dot}
+use Rattle.geos_verify.specs.Potentials.{dot}
 use Rattle.geos_code.specs.Code.{IsPcOf, edge_row}
 use Rattle.geos_code.specs.Known.{row_of, known_at, clean}
 use Rattle.geos_counters.specs.Counters.{zeros}

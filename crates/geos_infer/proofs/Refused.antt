@@ -13,15 +13,13 @@ use Rattle.geos_image.specs.declared.point.Point.{Point}
 use Rattle.geos_image.specs.Parts.{Parts}
 use Rattle.geos_image.specs.Keys.{branches, falls_through}
 use Rattle.geos_verify.specs.Rows.{bound}
-use Rattle.geos_verify.specs.Potentials.{budget_of, pays_along, pays_branching}
+use Rattle.geos_verify.specs.Potentials.{budget_of, pays_along, pays_branching, dot, value}
 use Rattle.geos_verify.specs.Rules.{returns, HasPoint}
 use Rattle.geos_verify.specs.Touched.{calls, counts, touches, touched_by}
 use Rattle.geos_verify.specs.declared.place.Place.{Place as Known}
 use Rattle.geos_verify.specs.Places.{places}
-use Rattle.geos_semantics.specs.Lists.{dot}
-use Rattle.geos_semantics.specs.Theorem.{value}
 use Rattle.geos_verify.proofs.Leads.{leads-along, leads-branching, may_return}
-use Rattle.geos_semantics.proofs.Paid.{pays-value, pays_setting-value, pays_taking-value, pays_calling-value, spent-at}
+use Rattle.geos_verify.proofs.Paid.{pays-value, pays_setting-value, pays_taking-value, pays_calling-value, spent-at}
 use Rattle.geos_code.specs.Code.{IsPcOf, instr_of}
 use Rattle.geos_counters.specs.Steps.{call_steps, taken_at}
 use Rattle.loop_causes.specs.Taken.{Place, Counts, Takes, word_at}
@@ -93,7 +91,7 @@ branching-value word image other i Loop p q before after b h is = rw is.1 (let p
 branching-value word image other i Call p q before after b h is = absurd cc
 branching-value word image other i _ p q before after b h is = rw is (let paid = pays-value p q before h in omega arith)
 
--- an instruction returns, goes on to the next one, or jumps
+-- an instruction returns, falls through, or jumps
 ends : (opcode : Opcode) → (returns opcode ≡ true) ⊎ ((falls_through opcode ≡ true) ⊎ (opcode ≡ Jmp))
 ends Ret = inl refl
 ends Jmp = inr (inr refl)

@@ -4,7 +4,7 @@ use Rattle.geos_image.specs.Legal.{is_image}
 use Rattle.geos_image.specs.Parts.{Parts}
 use Rattle.geos_rows.specs.Solutions.{NoRowsHoldIn}
 use Rattle.geos_rows.specs.Why.{AreApart, MeetAlike}
-use Rattle.geos_causes.specs.declared.apart.Apart.{Apart}
+use Rattle.geos_flow.specs.declared.apart.Apart.{Apart}
 use Rattle.geos_rows.proofs.Weakening.{never-apart}
 use Rattle.geos_counters.specs.Steps.{NoStepsHoldIn}
 use Rattle.geos_infer.specs.Findings.{IsUnpaid, IsObstacle, Stops}
@@ -43,7 +43,7 @@ steps-or-apart : (image : Parts) (r : ℕ) (obstacle : Obstacle) → IsObstacle 
 steps-or-apart image r (SlotsDiffer apart) are meet = absurd (never-apart image r apart are meet)
 steps-or-apart image r (NoSteps unpaid) is meet = (unpaid, is)
 
--- so then none hold, for a reason that is so
+-- then no numbers of steps hold
 pub steps-none : (image : Parts) (finding : Finding) → Stops image finding → MeetAlike image finding.routine → NoStepsHoldIn image finding.routine
 steps-none image finding S meet =
     let found = steps-or-apart image finding.routine finding.obstacle S.is meet in

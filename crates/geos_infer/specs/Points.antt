@@ -9,7 +9,7 @@ use Rattle.geos_image.specs.Legal.{is_row}
 use Rattle.geos_potentials.specs.Numbers.{Numbers}
 use Rattle.geos_code.specs.Known.{row_of, known_at}
 
--- so many steps, whatever the counters are
+-- the potential of n steps, with all coefficients 0
 abbrev pub potential_of : ℕ → Potential
 potential_of n = record { constant = n; coefficients = 0 ∷ 0 ∷ 0 ∷ 0 ∷ [] }
 

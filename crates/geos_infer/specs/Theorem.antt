@@ -32,8 +32,9 @@ NoneIsAccepted skeleton = Forward skeleton → HasAccepted skeleton → ⊥
 abbrev pub NothingHoldsIn : Parts → ℕ → Type 0
 NothingHoldsIn image r = ForwardIn image r → (rows : List Row) (steps : List ℕ) → RowsHoldIn image r rows → StepsHoldIn image r steps → ⊥
 
--- all rows and the potentials are found for the skeleton's code: rows hold wherever control reaches, and ways of control meet with slots that
--- differ in marks at most; in routines with loops the potentials pay, and are the least that do with their coefficients, which are wanted
+-- rows and potentials are found for all of the skeleton's code. The rows hold wherever control reaches, and where
+-- paths meet their slots differ in marks at most. In routines with loops the potentials pay; the constants are the
+-- least that pay with these coefficients, and each coefficient is required.
 pub record IsInferred (skeleton found : Parts) : Type 0 where
   pub code : SameCode skeleton found
   pub all : found.keyed ≡ false

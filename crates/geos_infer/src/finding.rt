@@ -3,8 +3,8 @@
 ghost use Rattle.std.specs.Prelude.{◌≡◌};
 ghost use Rattle.geos_infer.specs.declared.finding.FindError.TheVariants.{Memory};
 
-use geos_causes::Apart;
 use geos_code::Known;
+use geos_flow::Apart;
 use geos_potentials::Reason;
 use std::alloc::AllocError;
 

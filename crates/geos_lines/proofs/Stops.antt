@@ -1,4 +1,4 @@
--- How operands are looked for, one kind after another.
+-- The search for operands, one kind after another.
 use Rattle.std.proofs.Common.{◌≡◌, ◌∙◌, ◌+◌, ◌<◌, ◌≤◌, ℕ, Bool, true, false, List, ◌∷◌, length, suc, drop, get_or, drop-cons, ap, subst, sym, inl, inr, arith}
 use Rattle.std.specs.Prelude.{MatchBool}
 use Rattle.std.proofs.lemmas.List.{drop_all}
@@ -19,7 +19,7 @@ at-false false P Q e q = q
 
 module _ (opcode : Opcode) (i : ℕ) (any : Field) (words : List (List ℕ)) (Ends : Stop → Type 0)
     (so_far : (stop : Stop) → StopsAt (kinds_of opcode (drop i fields)) words stop → Ends stop) where
-  -- what is wanted next
+  -- the kind of the next operand
   abbrev kind : Operand
   kind = operand_at opcode (get_or fields i any)
 
@@ -34,11 +34,11 @@ module _ (opcode : Opcode) (i : ℕ) (any : Field) (words : List (List ℕ)) (En
   goes-on : i < length fields → (stop : Stop) → StopsAt (kind ∷ others) words stop → Ends stop
   goes-on within stop stops = so_far stop (subst (λ kinds. StopsAt kinds words stop) (sym (next within)) stops)
 
-  -- no word is wanted
+  -- this field takes no word
   pub past-unused : i < length fields → is_written kind ≡ false → (stop : Stop) → StopsAt others words stop → Ends stop
   past-unused within unused stop stops = goes-on within stop (at-false (is_written kind) _ _ unused stops)
 
-  -- a word is as it is wanted
+  -- a word is an operand of the expected kind
   pub past-operand : (behind : List (List ℕ)) → i < length fields → is_written kind ≡ true → IsOperand kind words behind
       → (stop : Stop) → StopsAt others behind stop → Ends stop
   past-operand behind within used is stop stops = goes-on within stop (at-true (is_written kind) _ _ used (inr (behind, is, stops)))
@@ -47,6 +47,6 @@ module _ (opcode : Opcode) (i : ℕ) (any : Field) (words : List (List ℕ)) (En
   pub stops-here : i < length fields → is_written kind ≡ true → (stop : Stop) → StopsHere kind words stop → Ends stop
   stops-here within used stop here = goes-on within stop (at-true (is_written kind) _ _ used (inl here))
 
-  -- nothing more is wanted
+  -- no more operands are expected
   pub stops-behind : length fields ≤ i → (stop : Stop) → StopsBehind words stop → Ends stop
   stops-behind past stop behind = so_far stop (subst (λ left. StopsAt (kinds_of opcode left) words stop) (sym (drop_all i fields past)) behind)

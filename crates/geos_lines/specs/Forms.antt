@@ -23,7 +23,7 @@ fits Shift word = is_ok (number_up_to 15 word)
 fits Routine word = is_name word
 fits Label word = is_name word
 
--- the first of some words is an operand of this kind, and these stand behind it
+-- the first word is an operand of this kind, and the words `behind` follow it
 abbrev pub IsOperand : Operand → List (List ℕ) → List (List ℕ) → Type 0
 IsOperand kind words behind = (word : List ℕ) × (words ≡ word ∷ behind) × (fits kind word ≡ true)
 
@@ -33,7 +33,7 @@ StopsHere kind [] (Missing wanted) = wanted ≡ kind
 StopsHere kind (first ∷ others) (At word wanted misfit) = (word.bytes.now ≡ first) × (wanted ≡ kind) × (fits kind first ≡ false)
 StopsHere kind words _ = ⊥
 
--- no operand is wanted: the first word, which is named, is too much; or there is none
+-- no more operands are expected: the first word is too much, and the stop names it; or no word is left
 abbrev pub StopsBehind : List (List ℕ) → Stop → Type 0
 StopsBehind [] (Nowhere last) = Unit {0}
 StopsBehind (first ∷ others) (TooMuch word) = word.bytes.now ≡ first

@@ -306,7 +306,7 @@ fn is_small_name(word: &[u8]) -> bool {
     }
 }
 
-/// Appends what else may have been meant by a word, a comment or a label.
+/// Appends another meaning that the author may have intended for a word: a file, a comment or a label.
 fn put_other(out: &mut Text, word: &[u8], next: Option<Word>) {
     if let Some(file) = other_file(word) {
         return out.put(file);

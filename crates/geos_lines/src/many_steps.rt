@@ -3,7 +3,7 @@
 ghost use Rattle.std.specs.Prelude.{◌≡◌, Some};
 ghost use Rattle.geos_lines.specs.ManySteps.{budget_of, budget_paid, number_of, number_set};
 
-use geos_causes::Cause;
+use geos_flow::Cause;
 use geos_image::Instr;
 use geos_opcodes::Opcode;
 use geos_source::{Parsed, TextRoutine};

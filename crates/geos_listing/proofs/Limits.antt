@@ -59,7 +59,7 @@ KeepsLimits-at image pc i legal lt there =
     let point = list_all-get (is_point image.keyed r n) image.points pc at.0 (image_parts image legal).points at.1 in
     rw same (keeps_limits image at.0.instr ((and_parts (is_instr r n at.0.instr) (is_given image.keyed at.0.row) point).0))
 
--- what is said of the instruction at a pc
+-- the text of the instruction at a pc
 pub instr-at : (f : Instr → List ℕ) (points : List Point) (pc : ℕ) (i : Instr) → pc < length points
     → IfSome (slice_get points pc) (λ point. i ≡ point.instr)
     → option_map_or (λ point. f point.instr) (slice_get points pc) [] ≡ f i

@@ -7,7 +7,7 @@ texts-more : (text : ℕ → List ℕ) (k : ℕ) → texts_below (k + 1) text �
 unfolding texts_below
 texts-more text k = rw add-one refl
 
--- what is said of the next number was written
+-- the text of one more number was written
 pub texts_below-step : (start middle after piece : List ℕ) (text : ℕ → List ℕ) (k : ℕ)
     → middle ≡ start ++ texts_below k text → after ≡ middle ++ piece → piece ≡ text k → after ≡ start ++ texts_below (k + 1) text
 texts_below-step start middle after piece text k so_far written is =

@@ -1,5 +1,4 @@
--- How an instruction is written: its word, and behind it the operands of the fields that are
--- used.
+-- How an instruction is written: its name, then the operands of the fields that it uses.
 use Rattle.std.specs.Prelude.{◌≡◌, ◌<◌, ℕ, Bool, false, ◌==◌, if◌then◌else◌, List, [], ◌++◌, length, Option, Some, None, take, unwrap_or, slice_get, slice_index_or, flat_map, codes, decimal}
 use Rattle.std.specs.List.{list_any}
 use Rattle.std.specs.Option.{option_map_or}
@@ -16,7 +15,7 @@ use Rattle.geos_opcodes.specs.declared.fields.Field.{Field}
 use Rattle.geos_opcodes.specs.Fields.{fields, operand_at}
 use Rattle.geos_image.specs.Fields.{value_at}
 
--- a routine's name without the zeros behind it
+-- a routine's name without the zeros at its end
 abbrev pub name_of : routine.Routine → List ℕ
 name_of r = take (unwrap_or (text_end r.name) 16) r.name
 
@@ -28,7 +27,7 @@ label_of pc = codes "L" ++ decimal pc
 abbrev pub KeepsLimits : Parts → Instr → Type 0
 KeepsLimits image i = (field : Field) → value_at i field < limit (length image.routines) (length image.points) (operand_at i.opcode field)
 
--- an operand, and a blank in front of it; nothing for a field that is unused
+-- a blank and an operand; nothing for an unused field
 abbrev pub operand_text : List routine.Routine → Operand → ℕ → List ℕ
 operand_text routines Unused n = []
 operand_text routines Word n = codes " w" ++ decimal n

@@ -15,7 +15,7 @@ public_text true = codes " public"
 abbrev pub routine_line : Routine → List ℕ
 routine_line r = codes "routine " ++ name_of r ++ public_text r.public ++ codes " budget " ++ decimal r.budget ++ codes "\n"
 
--- the instruction at a pc, behind its label where another leads to it
+-- the instruction at a pc, after its label if another instruction leads to it
 abbrev pub place_text : Parts → ℕ → List ℕ
 place_text image pc = label_line image.points pc ++ option_map_or (λ point. instr_line image.routines point.instr) (slice_get image.points pc) []
 

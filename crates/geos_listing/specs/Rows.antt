@@ -14,7 +14,7 @@ texts_below (suc n) text = texts_below n text ++ text n
 abbrev pub bound_item : ℕ → ℕ → List ℕ
 bound_item i bound = if bound == 65535 then [] else codes " w" ++ decimal i ++ codes "<=" ++ decimal bound
 
--- a slot that is held, and what it holds
+-- a slot that is not empty, and what it contains
 abbrev pub held_item : ℕ → List ℕ → List ℕ
 held_item i word = codes " s" ++ decimal i ++ codes "=" ++ word
 

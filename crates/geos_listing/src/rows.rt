@@ -36,7 +36,7 @@ fn put_bounds(out: &mut Vec<u8>, bounds: &[u16; 8]) -> Result<(), AllocError>
     Ok(())
 }
 
-/// A slot that is held, and what it holds.
+/// Appends a slot that is not empty, and what it contains.
 fn put_held(out: &mut Vec<u8>, i: usize, word: &str) -> Result<(), AllocError>
     ensures { OnOk result (out.new.items ≡ out.old.items ++ held_item i word.now) }
 {
@@ -83,7 +83,7 @@ fn put_slots(out: &mut Vec<u8>, slots: &[SlotState; 4]) -> Result<(), AllocError
     Ok(())
 }
 
-/// Where a pointer leads, unless nothing is known of it.
+/// Appends where a pointer leads, unless it is stale.
 fn put_pointer(out: &mut Vec<u8>, i: usize, pointer: Option<Pointer>) -> Result<(), AllocError>
     ensures value { OnOk result (out.new.items ≡ out.old.items ++ pointer_item i pointer) }
     ensures fits { OnOk result (PointerFits pointer) }

@@ -21,7 +21,7 @@ abbrev lacks : Option Opcode → Bool
 lacks (Some opcode) = false
 lacks None = true
 
--- whether the byte spells the opcode, or none where there is none
+-- the byte encodes the opcode, or no opcode if none is given
 abbrev spells : ℕ → Option Opcode → Bool
 spells code (Some opcode) = code_of opcode == code
 spells code None = lacks (opcode_of code)
@@ -35,7 +35,7 @@ opcode_of_spells code (Some opcode) h =
     subst (λ (k : ℕ). opcode_of k ≡ Some opcode) (eqb-true _ _ h) (opcode_again opcode)
 opcode_of_spells code None h = none_of_lacks (opcode_of code) h
 
--- the opcode of a byte stands at the place of the list that the byte counts
+-- the opcode of a byte is at position `code - 1` of the list
 pub opcode_placed : (code : ℕ) → code < 256 → (code ≡ 0 → ⊥) → opcode_of code ≡ slice_get opcodes (code - 1)
 opcode_placed code lt some =
     let test = agree_below_at (λ k. k == 0 || spells k (slice_get opcodes (k - 1))) (λ _. true) 256 code refl lt in

@@ -7,7 +7,7 @@ use crate::opcode::{Opcode, Operand, Operands};
 use crate::uses::{Kind, Offset, PointerUse, SlotUse, Uses, Width};
 
 /// The register in which an instruction leaves a word, and what is known of the word.
-#[derive(Clone, Copy, Debug, PartialEq, Eq)]
+#[derive(Clone, Copy)]
 pub enum Yields {
     /// Nowhere.
     Nothing,
@@ -24,7 +24,7 @@ pub enum Yields {
 }
 
 /// Where control goes.
-#[derive(Clone, Copy, Debug, PartialEq, Eq)]
+#[derive(Clone, Copy, PartialEq, Eq)]
 pub enum Flow {
     /// On, and where the target is a label, there too.
     Along,
@@ -37,7 +37,7 @@ pub enum Flow {
 }
 
 /// What becomes of counter a.
-#[derive(Clone, Copy, Debug, PartialEq, Eq)]
+#[derive(Clone, Copy)]
 pub enum CounterUse {
     /// Nothing.
     Untouched,
@@ -50,7 +50,7 @@ pub enum CounterUse {
 }
 
 /// What there is to know of an opcode.
-#[derive(Clone, Copy, Debug, PartialEq, Eq)]
+#[derive(Clone, Copy)]
 pub struct Facts {
     /// The byte that encodes it.
     pub code: u8,

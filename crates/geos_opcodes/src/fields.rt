@@ -7,7 +7,7 @@ ghost use Rattle.geos_opcodes.specs.Fields.{operand_at};
 use crate::opcode::{Opcode, Operand};
 
 /// A field of an instruction.
-#[derive(Clone, Copy, Debug, PartialEq, Eq)]
+#[derive(Clone, Copy)]
 pub enum Field {
     A,
     B,

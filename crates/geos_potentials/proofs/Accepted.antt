@@ -57,7 +57,7 @@ along-steps image i Loop row p q h = setting-steps i.a 0 p q h
 along-steps image i Call row p q h = calling-steps (budget_of image i.imm) (touched_by image i.imm) p q h
 along-steps image i _ row p q h = pays-steps p q h
 
--- Which counters a routine touches is said by the code
+-- The code determines which counters a routine touches
 
 list_any-map : (g : Instr → Bool) (points : List Point) → list_any (λ point. g point.instr) points ≡ list_any g (map instr_of points)
 list_any-map g [] = refl

@@ -1,4 +1,4 @@
--- What the edges of code whose edges all lead ahead ask for.
+-- What edges require in code without back edges.
 use Rattle.std.proofs.Common.{◌≡◌, ℕ, zero, suc, ◌+◌, ◌*◌, ◌<◌, Bool, true, false, List, [], length, Option, Some, None, slice_get, get_or, set, refl, sym, ap, ◌∙◌, subst, arith}
 use Rattle.std.specs.Prelude.{max, IfSome, if◌then◌else◌}
 use Rattle.geos_opcodes.specs.declared.opcode.Opcode.{Opcode}
@@ -23,7 +23,7 @@ use Rattle.geos_potentials.specs.Count.{edge_steps, return_steps, steps_at, Zero
 use Rattle.geos_counters.specs.Steps.{call_steps, most_steps}
 use Rattle.geos_code.proofs.Back.{none-ahead, read-ahead}
 
--- Where no counter counts behind an edge, it asks for steps alone
+-- If all coefficients after an edge are 0, the edge requires only steps
 
 pub zero-at : (k : ℕ) → get_or zeros k 0 ≡ 0
 zero-at zero = refl

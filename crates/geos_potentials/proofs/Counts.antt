@@ -1,4 +1,4 @@
--- What is counted from behind holds, and is least.
+-- The steps that are counted from the end of a routine hold, and are the least.
 use Rattle.std.proofs.Common.{◌≡◌, ◌≢◌, ℕ, ◌+◌, ◌<◌, ◌≤◌, Bool, true, false, List, [], length, Option, Some, None, slice_get, get_or, set, refl, sym, ap, ◌∙◌, subst, arith, inl, inr}
 use Rattle.std.specs.Prelude.{◌&&◌, nat_lt, max, IfSome}
 use Rattle.std.proofs.lemmas.Bool.{and_parts, ltb-true, lt-ltb, cases_eq, cases_lt}
@@ -42,7 +42,7 @@ module _ (image : Parts) (r : ℕ) (forward : ForwardIn image r) (want steps : L
     (pc : ℕ) (i : Instr) (read : slice_get (instrs_of image) pc ≡ Some i) (within : IsPcOf image r pc)
     (limit : ℕ) (small : limit ≤ length (instrs_of image)) (ends : limit ≡ start_of image.routines (r + 1))
     (C : Counting image limit want steps (pc + 1)) where
-  -- what an edge asks for is at most the number that holds
+  -- what an edge requires is at most the number that holds
   asks-below : (branch b : Bool) → leads_ahead limit pc i branch ≡ b → edge_steps image limit pc i branch steps ≤ get_or want pc 0
   asks-below branch true e =
       let a = and_parts (has_edge i branch && nat_lt pc (edge_end pc i branch)) (nat_lt (edge_end pc i branch) limit) e in

@@ -1,4 +1,4 @@
--- Whatever a unit pays for is wanted by a LOOP, however it spreads.
+-- However prices spread, each price that is not 0 is required by a LOOP.
 use Rattle.std.proofs.Common.{◌≡◌, ◌≤◌, ◌<◌, ◌⊎◌, ℕ, zero, suc, Bool, true, false, List, [], ◌∷◌, length, Option, Some, refl, sym, ap, ◌∙◌, subst, arith, inl, inr}
 use Rattle.std.specs.Prelude.{max, if◌then◌else◌, slice_index, slice_index_or, slice_set}
 use Rattle.std.proofs.lemmas.Bool.{cases_eq, cases_lt}
@@ -29,7 +29,7 @@ grows old next p numbers R at k = elim (cases_eq at p) [
   | inr ne ↦ (let is = R.others at k ne in omega (arith, is))
 ]
 
--- so what was wanted still is
+-- after prices have grown, what was required still is
 still : (arcs : List (List (Option Arc))) (old next : List (List ℕ)) (p : ℕ) (numbers : List ℕ) → AreRaised old next p numbers
     → (pc k n : ℕ) → IsWanted arcs old pc k n → IsWanted arcs next pc k n
 still arcs old next p numbers R pc k n W =
@@ -109,7 +109,7 @@ kept-some counting numbers (suc (suc zero)) some = some-kept (keeps counting 2) 
 kept-some counting numbers (suc (suc (suc zero))) some = some-kept (keeps counting 3) (slice_index numbers 3) some
 kept-some counting numbers (suc (suc (suc (suc k)))) some = absurd (omega arith)
 
--- what an edge keeps of what is wanted where it leads is wanted where it begins, of some counters
+-- the prices at the end of an edge, for counters that the edge does not change, are required at its start
 pub some-back-wanted : (arcs : List (List (Option Arc))) (old next : List (List ℕ)) (p : ℕ) (branch : Bool) (arc : Arc) (numbers : List ℕ)
     → arc_at arcs p branch ≡ Some arc
     → ((k : ℕ) → 0 < slice_index numbers k → slice_index numbers k ≡ slice_index (kept_over arc.counting (slice_index_or old arc.to [])) k)
@@ -143,7 +143,7 @@ back-wanted arcs old next p branch arc numbers read is = some-back-wanted arcs o
 
 -- At a LOOP
 
--- one counter's number alone is not 0
+-- only the number of one counter is not 0
 pub only-some : (k j n : ℕ) → 0 < slice_index (slice_set zeros k n) j → (j ≡ k) × (slice_index (slice_set zeros k n) j ≡ n)
 only-some k j n some = elim (cases_eq j k) [
   | inl same ↦ elim (cases_lt k 4) [
@@ -156,7 +156,7 @@ only-some k j n some = elim (cases_eq j k) [
       absurd (omega (arith, some, none)))
 ]
 
--- a unit of a LOOP's counter is wanted there
+-- a LOOP requires a unit of its own counter
 pub loop-wanted : (arcs : List (List (Option Arc))) (old next : List (List ℕ)) (p k n : ℕ) (arc : Arc)
     → arc_at arcs p true ≡ Some arc → taken_from arc.counting ≡ Some k → AreRaised old next p (slice_set zeros k n) → StayWanted arcs old next
 loop-wanted arcs old next p k n arc read takes R before = raised-wanted arcs old next p (slice_set zeros k n) R wanted before
@@ -178,7 +178,7 @@ loop-wanted arcs old next p k n arc read takes R before = raised-wanted arcs old
           much = (let raised = R.here j in omega (arith, raised));
         }
 
--- where a unit pays for nothing, nothing is wanted
+-- if no unit pays for anything, nothing is required
 pub none-wanted : (arcs : List (List (Option Arc))) (pay : List (List ℕ)) → ((pc k : ℕ) → unit_at pay pc k ≡ 0) → AreWanted arcs pay
 none-wanted arcs pay none pc k some = (let zero = none pc k in absurd (omega (arith, some, zero)))
 
@@ -195,7 +195,7 @@ filled-wanted arcs pay long filled = none-wanted arcs pay none
 
 -- What is counted
 
--- an edge that keeps a counter asks for its coefficient
+-- an edge that does not change a counter requires its coefficient
 asks-kept : (row : Row) (table : List (List Bool)) (i : Instr) (opcode : Opcode) (branch : Bool) (k : ℕ)
     → keeps (counting_of row table i opcode branch) k ≡ true → asks_coefficient k i opcode branch ≡ true
 asks-kept row table i Setk true k e = refl
@@ -218,7 +218,7 @@ module _ (image : Parts) (r : ℕ) (known : List (Option Row)) (table : List (Li
   pub is-arc : (pc : ℕ) (branch : Bool) (arc : Arc) → IsPcOf image r pc → arc_at arcs pc branch ≡ Some arc → IsArc image r known table pc branch arc
   is-arc pc branch arc within read = subst (IsArcIf image r known table pc branch) read (noted pc branch within)
 
-  -- a way of such edges asks for the coefficient
+  -- each edge of the path requires the coefficient
   asking : (k : ℕ) (branches : List Bool) (from to : ℕ) → IsPcOf image r from → IsKeptOver arcs k from branches to
       → IsAskingWay image r k from branches to × IsPcOf image r to
   asking k [] from to within way = (way, subst (IsPcOf image r) way within)

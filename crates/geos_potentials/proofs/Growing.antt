@@ -121,7 +121,7 @@ module _ (image : Parts) (r : ℕ) (known : List (Option Row)) (table : List (Li
   paid-as-much pc false arc (Takes k) is same none = absurd (none refl k is)
   paid-as-much pc branch arc _ is same none = omega arith
 
-  -- edges that are looked at ask no more where units have grown, but not at LOOPs that are looked at
+  -- if prices have grown, but not at the LOOPs whose edges are examined, no examined edge requires more than before
   pub none-asks-more : (links : List (List (Option Link))) → AreLookedAt image r arcs jumps pay links → AskNoMore image r arcs next links
   none-asks-more links looked pc branch link within e =
       let L = subst (IsLookedAt arcs jumps pay pc branch) e (looked pc branch within) in

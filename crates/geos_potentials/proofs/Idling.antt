@@ -1,4 +1,4 @@
--- What is noted of counters in a routine is so: where one may not pay by what is noted, it may not.
+-- The notes on idle counters are true: a counter that is noted as one that may not pay may not pay.
 use Rattle.std.proofs.Common.{◌≡◌, ◌<◌, ◌⊎◌, ◌+◌, ℕ, zero, suc, Bool, true, false, not, List, [], ◌∷◌, ◌++◌, Option, Some, refl, sym, ap, ◌∙◌, subst, arith, inl, inr, None}
 use Rattle.geos_verify.proofs.Places.{if_some}
 use Rattle.std.specs.Prelude.{◌||◌, ◌==◌, slice_index_or, IfSome, slice_get, ◌&&◌}
@@ -98,7 +98,7 @@ module _ (image : Parts) (r : ℕ) (known : List (Option Row)) (table : List (Li
     };
   })
 
-  -- behind a call that touches a counter this may not pay
+  -- after a call that touches a counter, the counter may not pay
   left-behind : (k pc to : ℕ) → IsPcOf image r pc → IsPcOf image r to → (leads : LeadsTo image pc false to)
       → calls_touching image k leads.point.instr ≡ true → MayNotPay image r k to
   left-behind k pc to within stays leads touching = inr (record {
@@ -142,7 +142,7 @@ module _ (image : Parts) (r : ℕ) (known : List (Option Row)) (table : List (Li
       let A = is-arc image r known table arcs are from branch way.0 within way.1 in
       idle-way k branches way.0.to to A.stays way.3 (idle-over k from branch way.0 within way.1 way.2 idle)
 
-  -- so what is noted is so
+  -- if a counter is noted as touched, it may not pay
   touched-idle : (touched : List (List ℕ)) → ComeBehind arcs (start_of image.routines r) (IsPcOf image r) ForgetsIt touched → (pc k : ℕ)
       → IsPcOf image r pc → 0 < unit_at touched pc k → MayNotPay image r k pc
   touched-idle touched come pc k within some =
@@ -195,7 +195,7 @@ comes-more image r from mid to C lead = record {
   way = idle-more image r C.branches from mid lead.1.0 to C.way lead.1.1;
 }
 
--- where control comes back, it goes round
+-- a path that comes back to its start is a cycle
 pub comes-back : (image : Parts) (r from mid : ℕ) → ComesIdle image r from mid → LeadsOnIdle image r mid from → IsNeverPaid image r
 comes-back image r from mid C lead = record {
   from = mid;

@@ -220,7 +220,7 @@ put-more image r pay ways potentials p more next one room constant coefficients 
           )
     ]
 
--- Edges that are looked at
+-- Edges that the search examines
 
 -- those of one more place of the routine
 pub outside-more : (image : Parts) (r : ℕ) (links next : List (List (Option Link))) (p : ℕ) (both : List (Option Link))
@@ -243,7 +243,7 @@ never-loops image pc i lt there not L =
 pub never-back : (image : Parts) (r pc : ℕ) → TargetAhead image r pc → GoesBack image r pc → ⊥
 never-back image r pc ahead G = (let less = ahead G.to G.i G.stays G.edge in let back = G.back in omega (arith, less, back))
 
--- Edges that are looked at
+-- Edges that the search examines, with their costs
 
 -- they are also where those of one more place are
 pub looked-more : (image : Parts) (r : ℕ) (arcs : List (List (Option Arc))) (jumps : List Jump) (pay : List (List ℕ))

@@ -1,4 +1,4 @@
--- Where ranks rise along edges, control does not come back by them.
+-- Edges along which ranks rise form no cycle.
 use Rattle.std.proofs.Common.{◌≡◌, ◌≤◌, ◌<◌, ◌+◌, ℕ, Bool, true, false, List, [], ◌∷◌, Some, sym, ap, ◌∙◌, arith, inl, inr}
 use Rattle.std.specs.Prelude.{slice_index}
 use Rattle.geos_image.specs.Parts.{Parts, start_of}

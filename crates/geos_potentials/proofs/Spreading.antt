@@ -35,7 +35,7 @@ raised-all P low old next p numbers R before new pc k above some = elim (cases_e
         let is : unit_at next p k ≡ unit_at old p k = (let raised = R.here k in omega (arith, raised, less)) in
         subst (P p k) (sym is) (before p k above (subst (λ (n : ℕ). 0 < n) is some))
 
--- ways one behind the other
+-- two paths in sequence
 pub way-on : (arcs : List (List (Option Arc))) (k : ℕ) (branches others : List Bool) (from mid to : ℕ)
     → IsKeptOver arcs k from branches mid → IsKeptOver arcs k mid others to → IsKeptOver arcs k from (branches ++ others) to
 way-on arcs k [] others from mid to way rest = subst (λ (n : ℕ). IsKeptOver arcs k n others to) (sym way) rest
@@ -64,11 +64,11 @@ along-come arcs old next p branch arc numbers read is R low first above before =
           is = number ∙ H.is;
         }
 
--- at first each stands where it is
+-- at first each number is at its own pc
 pub come-refl : (arcs : List (List (Option Arc))) (low : ℕ) (old : List (List ℕ)) → HaveCome arcs low old old
 come-refl arcs low old pc k above some = record { from = pc; above = above; branches = []; way = refl; is = refl }
 
--- Behind edges
+-- Numbers that come from edges
 
 -- numbers that are raised where such an edge leads
 pub behind-raised : (arcs : List (List (Option Arc))) (low : ℕ) (place : ℕ → Type 0) (does : Does) (old next : List (List ℕ)) (p : ℕ) (arc : Arc)
@@ -79,7 +79,7 @@ behind-raised arcs low place does old next p arc numbers here read done R before
     raised-all (λ pc k n. ComesBehind arcs place (does k n) pc k) low old next arc.to numbers R before
     (λ k above some. record { at = p; here = here; arc = arc; read = read; done = done k some; branches = []; way = refl })
 
--- numbers that have come from where they come from behind such edges
+-- numbers that have come from others, which have come from the ends of the given edges
 pub behind-come : (arcs : List (List (Option Arc))) (low : ℕ) (place : ℕ → Type 0) (does : Does) (old next : List (List ℕ))
     → ComeBehind arcs low place does old → HaveCome arcs low old next → ComeBehind arcs low place does next
 behind-come arcs low place does old next before come pc k above some =
@@ -95,7 +95,7 @@ behind-come arcs low place does old next before come pc k above some =
       way = way-on arcs k C.branches H.branches C.arc.to H.from pc C.way H.way;
     }
 
--- numbers that have come from those that were raised at one pc alone
+-- numbers that have come from the numbers that were raised at a single pc
 pub from-come : (arcs : List (List (Option Arc))) (low p : ℕ) (old mid next : List (List ℕ)) (numbers : List ℕ)
     → ((pc k : ℕ) → low ≤ pc → unit_at old pc k ≡ 0) → AreRaised old mid p numbers → HaveCome arcs low mid next
     → (pc k : ℕ) → low ≤ pc → 0 < unit_at next pc k → (branches : List Bool) × IsKeptOver arcs k p branches pc

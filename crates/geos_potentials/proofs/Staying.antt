@@ -1,4 +1,5 @@
--- In routines with loops the numbers that are found are still the least, pay, and are wanted for LOOPs, where those of further routines are.
+-- While further routines are counted, the numbers of a routine with loops stay the least, still pay, and are still
+-- required by LOOPs.
 use Rattle.std.proofs.Common.{◌≡◌, ◌<◌, ℕ, ◌+◌, true, List, Option, Some, None, refl, sym, ap, subst, arith, inl, inr}
 use Rattle.std.specs.Prelude.{slice_index}
 use Rattle.std.proofs.lemmas.Bool.{cases_eq}
@@ -15,7 +16,7 @@ use Rattle.geos_potentials.specs.Reasons.{IsReason}
 use Rattle.geos_potentials.specs.declared.reason.Reason.{Reason}
 use Rattle.geos_potentials.proofs.Priced.{potential-at}
 
--- they are where the numbers of a routine stay
+-- if the numbers of a routine stay, they stay the least
 least-same : (image : Parts) (r : ℕ) (known : List (Option Row)) (numbers next : Numbers)
     → ((pc : ℕ) → IsPcOf image r pc → (slice_index next.steps pc ≡ slice_index numbers.steps pc)
     × (coefficients_at next.coefficients pc ≡ coefficients_at numbers.coefficients pc)) → AreLeastIn image r known numbers
@@ -36,7 +37,7 @@ least-same image r known numbers next same least steps P pc within =
     let is = (same pc within).0 in
     omega (arith, less, is)
 
--- and they pay where these stay
+-- if the numbers of a routine stay, they still pay
 paid-same : (image : Parts) (r : ℕ) (known : List (Option Row)) (numbers next : Numbers)
     → ((pc : ℕ) → IsPcOf image r pc → (slice_index next.steps pc ≡ slice_index numbers.steps pc)
     × (coefficients_at next.coefficients pc ≡ coefficients_at numbers.coefficients pc)) → ArePaidIn image r known numbers
@@ -53,7 +54,7 @@ paid-same image r known numbers next same P = record {
     same-potential : (pc : ℕ) → IsPcOf image r pc → potential_in next pc ≡ potential_in numbers pc
     same-potential pc within = potential-at numbers pc (potential_in next pc) ((same pc within).0) ((same pc within).1)
 
--- and they are wanted for LOOPs
+-- if the coefficients of a routine stay, LOOPs still require them
 for-same : (image : Parts) (r : ℕ) (old next : ℕ → List ℕ) → ((pc : ℕ) → IsPcOf image r pc → next pc ≡ old pc)
     → AreForLoops image r old → AreForLoops image r next
 for-same image r old next same wanted pc k within some =

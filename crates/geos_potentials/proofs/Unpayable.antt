@@ -1,4 +1,4 @@
--- No image is accepted whose code has a way round on which no LOOP may pay.
+-- No image is accepted if its code has a cycle in which no LOOP may pay.
 use Rattle.std.proofs.Common.{◌≡◌, ◌≢◌, ◌≤◌, ◌<◌, ℕ, zero, suc, ◌+◌, Bool, true, false, not, List, [], ◌∷◌, length, Some, None, slice_get, get_or, refl, sym, ap, ◌∙◌, subst, arith, inl, inr}
 use Rattle.std.specs.Prelude.{◌&&◌, ◌==◌, nat_le, nat_lt}
 use Rattle.std.specs.List.{list_any}
@@ -22,7 +22,7 @@ use Rattle.geos_verify.specs.declared.place.Place.{Place}
 use Rattle.geos_verify.specs.Places.{places}
 use Rattle.geos_verify.proofs.Leads.{leads-along, leads-branching, may_begin}
 use Rattle.geos_verify.proofs.Places.{item_at}
-use Rattle.geos_semantics.proofs.Paid.{spent-at}
+use Rattle.geos_verify.proofs.Paid.{spent-at}
 use Rattle.geos_code.specs.Code.{is_loop, IsPcOf}
 use Rattle.geos_counters.specs.Idle.{calls_touching, MayNotPay, LeadsIdle, IsIdleWay, IsNeverPaid}
 use Rattle.geos_counters.specs.Counters.{zeros}
@@ -37,7 +37,7 @@ use Rattle.geos_code.proofs.Bounds.{bound-at}
 abbrev coefficient : Potential → ℕ → ℕ
 coefficient p k = get_or p.coefficients k 0
 
--- what is asked of coefficients is there
+-- the potential has each required coefficient
 asked-at : (asked : Asked) (p : Potential) (k : ℕ) → is_paid asked p ≡ true → get_or asked.coefficients k 0 ≤ coefficient p k
 asked-at asked p k h = bound-at asked.coefficients p.coefficients k ((and_parts _ (all2 nat_le asked.coefficients p.coefficients) h).1)
 
@@ -48,7 +48,7 @@ set-kept : (a n k : ℕ) (p q : Potential) → is_paid (asks_setting a n q) p �
 set-kept a n k p q h ne = (let least = asked-at (asks_setting a n q) p k h in let same = get_or-set_other q.coefficients a k 0 0 ne in
     omega (arith, least, same))
 
--- an edge to the next instruction that keeps a counter asks for its coefficient
+-- an edge to the next instruction that does not change a counter requires its coefficient
 along-kept : (image other : Parts) (i : Instr) (opcode : Opcode) (row : Row) (p q : Potential) (k : ℕ)
     → pays_along other i opcode row p q ≡ true → keeps_counter image k i opcode false ≡ true → coefficient q k ≤ coefficient p k
 along-kept image other i Setk row p q k h kept = set-kept i.a i.imm k p q h (other-than i.a k kept)
@@ -63,7 +63,7 @@ branching-kept : (i : Instr) (opcode : Opcode) (p q : Potential) (k : ℕ) → p
 branching-kept i Loop p q k h = bound-at q.coefficients p.coefficients k ((and_parts _ (all2 nat_le q.coefficients p.coefficients) h).1)
 branching-kept i _ p q k h = bound-at q.coefficients p.coefficients k ((and_parts _ (all2 nat_le q.coefficients p.coefficients) h).1)
 
--- the constant alone pays where it is no LOOP's, or its counter does not pay
+-- on an edge to a target only the constant pays, unless the instruction is a LOOP with a counter that pays
 branching-idle : (i : Instr) (opcode : Opcode) (p q : Potential) → pays_branching i opcode p q ≡ true
     → (is_loop opcode ≡ true → coefficient p i.a ≡ 0) → q.constant + 1 ≤ p.constant
 branching-idle i Loop p q h none =
@@ -97,7 +97,7 @@ module _ (image : Parts) (has : HasAccepted image) (r : ℕ) (routine : Routine)
   potential-is : (pc : ℕ) (place : Place) → slice_get (places has.other) pc ≡ Some place → place.potential ≡ potential pc
   potential-is pc place read = rw (read, potential) refl
 
-  -- an edge within the routine that keeps a counter asks for its coefficient
+  -- an edge within the routine that does not change a counter requires its coefficient
   edge-kept : (pc to k : ℕ) (branch : Bool) → IsPcOf image r pc → (leads : LeadsTo image pc branch to)
       → keeps_counter image k leads.point.instr leads.point.instr.opcode branch ≡ true → coefficient (potential to) k ≤ coefficient (potential pc) k
   edge-kept pc to k false within leads kept =
@@ -153,7 +153,7 @@ module _ (image : Parts) (has : HasAccepted image) (r : ℕ) (routine : Routine)
       (potential-is to L.point (subst (λ (n : ℕ). slice_get (places has.other) n ≡ Some L.point) end L.has.read)) in
       omega (arith, most, first, second)
 
-  -- a coefficient grows on no way on which the counter is kept
+  -- on a path that does not change a counter, its coefficient never grows
   trail-kept : (k from : ℕ) (branches : List Bool) (to : ℕ) → IsPcOf image r from → IsTrail image r (Some k) from branches to
       → coefficient (potential to) k ≤ coefficient (potential from) k
   trail-kept k from [] to within trail = (let same = ap (λ (n : ℕ). coefficient (potential n) k) trail in omega (arith, same))
@@ -175,7 +175,7 @@ module _ (image : Parts) (has : HasAccepted image) (r : ℕ) (routine : Routine)
       ap (λ (p : Potential). coefficient p k) (sym (potential-is (start_of image.routines r) here.0 here.1.read))
       ∙ none-at here.0.potential.coefficients k none
 
-  -- behind a call there are none on counters that the routine touches
+  -- after a call the coefficients of the counters that the routine touches are 0
   call-zero : (k at : ℕ) (point : Point) → IsPcOf image r at → slice_get image.points at ≡ Some point
       → calls_touching image k point.instr ≡ true → coefficient (potential (at + 1)) k ≡ 0
   call-zero k at point within read touching =

@@ -1,4 +1,4 @@
--- The longest ways that are known, and numbers of steps that pay for each edge.
+-- The longest known paths, and numbers of steps that pay for each edge.
 use Rattle.std.specs.Prelude.{◌≡◌, ◌≤◌, ◌+◌, ◌⊎◌, ℕ, Bool, true, false, if◌then◌else◌, List, [], Option, Some, None, slice_get, slice_index, slice_index_or}
 use Rattle.geos_image.specs.Parts.{Parts}
 use Rattle.geos_image.specs.declared.point.Point.{Point}
@@ -13,57 +13,58 @@ use Rattle.control_graph.specs.declared.jumps.Jump.TheVariants.{Plain, Free}
 use Rattle.geos_potentials.specs.declared.lengths.Link.{Link}
 use Rattle.geos_potentials.specs.declared.lengths.Way.{Way}
 
--- no way is known
+-- no path is known
 abbrev pub no_way : Way
 no_way = record { steps = 0; first = None; passed = 0 }
 
--- the steps of the longest way from a pc that is known
+-- the steps of the longest known path from a pc
 abbrev pub steps_at : List Way → ℕ → ℕ
 steps_at ways pc = (slice_index_or ways pc no_way).steps
 
--- the edge of a pc that is looked at
+-- the link of an edge of a pc, if the search examines this edge
 abbrev pub link_at : List (List (Option Link)) → ℕ → Bool → Option Link
 link_at links pc branch = slice_index_or (slice_index_or links pc []) (if branch then 1 else 0) None
 
--- so many steps at each pc pay for an edge from this one, if there is one, with what a unit pays of it
+-- the numbers of steps pay for the link from a pc, if there is one, together with what a counter pays of it
 abbrev pub PaysLink : (ℕ → ℕ) → ℕ → Option Link → Type 0
 PaysLink want pc None = Unit {0}
 PaysLink want pc (Some link) = want link.to + link.costs ≤ want pc + link.paid
 
--- they pay for each edge that is looked at
+-- so many steps at each pc pay for each examined edge
 abbrev pub PayAll : List (List (Option Link)) → (ℕ → ℕ) → Type 0
 PayAll links want = (pc : ℕ) (branch : Bool) → PaysLink want pc (link_at links pc branch)
 
--- no way that is known takes more steps
+-- no known path takes more steps than `want`
 abbrev pub AtMost : List Way → (ℕ → ℕ) → Type 0
 AtMost ways want = (pc : ℕ) → steps_at ways pc ≤ want pc
 
--- where no way takes more steps than numbers that pay for all these edges, none does next
+-- if no known path takes more steps than any numbers that pay for all links, none does afterwards
 abbrev pub StayAtMost : List (List (Option Link)) → List Way → List Way → Type 0
 StayAtMost links ways next = (want : ℕ → ℕ) → PayAll links want → AtMost ways want → AtMost next want
 
--- so many steps at each pc pay for the returns of routine r, and elsewhere no way that is known takes more
+-- the numbers of steps pay for the returns of routine r, and no known path from outside of it takes more
 pub record PayEnds (image : Parts) (r : ℕ) (ways : List Way) (want : ℕ → ℕ) : Type 0 where
   pub returns : (pc : ℕ) (point : Point) → IsPcOf image r pc → slice_get image.points pc ≡ Some point → return_steps point.instr ≤ want pc
   pub others : (pc : ℕ) → (IsPcOf image r pc → ⊥) → steps_at ways pc ≤ want pc
 
--- the ways that are known next are the ends of routine r
+-- no path that is known next takes more steps than numbers that pay for the returns of routine r
 abbrev pub AreEnds : Parts → ℕ → List Way → List Way → Type 0
 AreEnds image r ways next = (want : ℕ → ℕ) → PayEnds image r ways want → AtMost next want
 
--- the ways of routine r that are known next are the least: none takes more steps than numbers that pay for its returns and for each edge
--- that is looked at
+-- the paths that are known next are no longer than necessary: none takes more steps than any numbers that pay for the
+-- returns of routine r and for each examined edge
 abbrev pub AreLeast : Parts → ℕ → List (List (Option Link)) → List Way → List Way → Type 0
 AreLeast image r links ways next = (want : ℕ → ℕ) → PayAll links want → PayEnds image r ways want → AtMost next want
 
--- What is looked at
+-- Which edges are examined
 
--- the way of a LOOP to its target is left out
+-- the edge of this LOOP to its target is left out
 abbrev pub is_free : Jump → Bool
 is_free Free = true
 is_free _ = false
 
--- the edge of a pc is looked at with what it costs, where units of counters pay for so much, or it is a LOOP's that is left out, or there is none
+-- with these prices the link of an edge of a pc has the cost of the edge. There is no link if there is no edge, or if
+-- the edge is that of a LOOP to its target and this LOOP is left out.
 abbrev pub IsLookedAt : List (List (Option Arc)) → List Jump → List (List ℕ) → ℕ → Bool → Option Link → Type 0
 IsLookedAt arcs jumps pay pc branch None = (arc_at arcs pc branch ≡ None) ⊎ ((branch ≡ true) × (is_free (slice_index_or jumps pc Plain) ≡ true))
 IsLookedAt arcs jumps pay pc branch (Some link) = (arc : Arc) × (arc_at arcs pc branch ≡ Some arc) × IsLink pay pc arc link
@@ -76,7 +77,8 @@ AreLookedAt image r arcs jumps pay links = (pc : ℕ) (branch : Bool) → IsPcOf
 
 -- What is made of these
 
--- the edge of a pc that is looked at asks no more than it costs, where units of counters pay for so much
+-- with these prices the link of an edge of a pc costs at most what the edge costs, and its counter pays at least as
+-- much
 pub record AsksNoMore (arcs : List (List (Option Arc))) (pay : List (List ℕ)) (pc : ℕ) (branch : Bool) (link : Link) : Type 0 where
   pub arc : Arc
   pub read : arc_at arcs pc branch ≡ Some arc
@@ -84,21 +86,21 @@ pub record AsksNoMore (arcs : List (List (Option Arc))) (pay : List (List ℕ)) 
   pub costs : link.costs ≤ 1 + arc.called + price_of pay arc.to arc.counting
   pub paid : paid_by pay pc arc.counting ≤ link.paid
 
--- the same of each edge of routine r that is looked at
+-- the same of each examined edge of routine r
 abbrev pub AskNoMore : Parts → ℕ → List (List (Option Arc)) → List (List ℕ) → List (List (Option Link)) → Type 0
 AskNoMore image r arcs pay links = (pc : ℕ) (branch : Bool) (link : Link) → IsPcOf image r pc → link_at links pc branch ≡ Some link
     → AsksNoMore arcs pay pc branch link
 
--- units pay for as much next at each LOOP on their counter that is not left out
+-- prices stay at each LOOP on their counter that is not left out
 abbrev pub StayAtLoops : List (List (Option Arc)) → List Jump → List (List ℕ) → List (List ℕ) → Type 0
 StayAtLoops arcs jumps pay next = (pc k : ℕ) (arc : Arc) → arc_at arcs pc true ≡ Some arc → taken_from arc.counting ≡ Some k
     → is_free (slice_index_or jumps pc Plain) ≡ false → unit_at next pc k ≡ unit_at pay pc k
 
--- no edge from outside of routine r is looked at
+-- the search examines no edge that starts outside routine r
 abbrev pub NoneOutside : Parts → ℕ → List (List (Option Link)) → Type 0
 NoneOutside image r links = (pc : ℕ) (branch : Bool) → (IsPcOf image r pc → ⊥) → link_at links pc branch ≡ None
 
--- the numbers of routine r are the steps of these ways, and these units
+-- the constants of routine r are the steps of these paths, and its coefficients are these prices
 abbrev pub ArePut : Parts → ℕ → List (List ℕ) → List Way → Numbers → Type 0
 ArePut image r pay ways numbers = (pc : ℕ) → IsPcOf image r pc → (slice_index numbers.steps pc ≡ steps_at ways pc)
     × (slice_index_or numbers.coefficients pc [] ≡ slice_index_or pay pc [])

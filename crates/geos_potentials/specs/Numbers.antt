@@ -15,6 +15,6 @@ steps_of p = p.constant
 abbrev pub coefficients_of : Potential → List ℕ
 coefficients_of p = p.coefficients
 
--- those of potentials
+-- the numbers of potentials
 abbrev pub numbers_of : List Potential → Numbers
 numbers_of potentials = record { steps = map steps_of potentials; coefficients = map coefficients_of potentials }

@@ -1,4 +1,4 @@
--- What holds while routines are counted, from the last to the first.
+-- The invariant while routines are counted, from the last to the first.
 use Rattle.std.specs.Prelude.{◌≡◌, ◌<◌, ℕ, List, Option, None, IfSome}
 use Rattle.geos_image.specs.Parts.{Parts}
 use Rattle.geos_image.specs.declared.potential.Potential.{Potential}
@@ -12,8 +12,9 @@ use Rattle.geos_counters.specs.Touching.{NotesTouched}
 use Rattle.geos_potentials.specs.declared.count.Tables.{Tables}
 use Rattle.geos_potentials.specs.declared.reason.Unfound.{Unfound}
 
--- of the first so many routines those from one on are counted, and where none is left, their numbers are the least; none hold in the one
--- that is left, for a reason that is so; and tables that are made say only what routines touch
+-- of the first `count` routines, those from `from` on are counted. If none of them is left over, their numbers are
+-- the least. If one is left over, no numbers of steps hold in it, and its reason is true. The table of touched
+-- counters, if it is made, is true.
 pub record AreFoundFrom (image : Parts) (from count : ℕ) (known : List (Option Row)) (potentials : List Potential) (left : Option Unfound)
     (tables : Option Tables) : Type 0 where
   pub counted : AreCounted image from count (numbers_of potentials)

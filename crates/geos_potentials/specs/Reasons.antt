@@ -1,4 +1,4 @@
--- Why no potentials are found for a routine, and what each reason says.
+-- The reasons why no potentials are found for a routine.
 use Rattle.std.specs.Prelude.{ℕ, List, Option}
 use Rattle.geos_image.specs.declared.row.Row.{Row}
 use Rattle.geos_image.specs.Parts.{Parts}
@@ -9,8 +9,9 @@ use Rattle.geos_counters.specs.Steps.{NoStepsHoldIn}
 use Rattle.geos_potentials.specs.declared.reason.Reason.{Reason}
 use Rattle.geos_potentials.specs.declared.reason.Reason.TheVariants.{TooMany, NoLoop, InTheWay}
 
--- the reason is so: routine r has no loops, and no numbers of steps hold in it; or control goes round in it by a way back, and takes no LOOP's
--- way to its target; or a search has come to what is in its way, whatever rows are known
+-- the reason is true. `TooMany`: routine r has no loops, and no numbers of steps hold in it. `NoLoop`: routine r has
+-- a cycle through a back edge, without the edge of a LOOP to its target. `InTheWay`: the search has met an obstacle,
+-- whatever rows are known.
 abbrev pub IsReason : Parts → ℕ → List (Option Row) → Reason → Type 0
 IsReason image r known TooMany = (HasLoops image r → ⊥) × NoStepsHoldIn image r
 IsReason image r known (NoLoop back) = GoesRound image r back.from back.to

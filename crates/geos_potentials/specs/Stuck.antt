@@ -11,7 +11,7 @@ pub record StayNoted (old next : Classes) : Type 0 where
   pub touched : next.touched ≡ old.touched
   pub unset : next.unset ≡ old.unset
 
--- where it is noted in routine r that a counter may not pay, it may not
+-- a counter that is noted in routine r as one that may not pay may not pay
 abbrev pub NotesIdle : Parts → ℕ → Classes → Type 0
 NotesIdle image r classes = (pc k : ℕ) → IsPcOf image r pc → noted_idle classes pc k ≡ true → MayNotPay image r k pc
 

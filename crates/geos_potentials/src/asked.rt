@@ -8,9 +8,8 @@ ghost use Rattle.geos_counters.specs.Counters.{zeros};
 ghost use Rattle.geos_potentials.specs.Count.{asked_steps, asked_coefficients, return_steps, AsksSteps, IsFound};
 
 use geos_code::{Body, Known, edge_in, row_of};
-use geos_image::{Instr, Opcode, Potential};
+use geos_image::{Instr, Opcode, Potential, Table};
 use geos_verify::{Asked, asked_along, asked_branching};
-use pc_tables::Table;
 
 /// The potential at each pc.
 pub type Potentials = Table<Potential>;

@@ -1,4 +1,4 @@
-//! Where a counter may not have a coefficient, and what a unit of the coefficient costs.
+//! The places at which a counter may not have a coefficient, and what a unit of the coefficient costs.
 
 ghost use Rattle.std.specs.Prelude.{◌≡◌, ◌≤◌, ◌<◌, ◌==◌, ◌&&◌, ℕ, true, false, not, slice_index, slice_index_or};
 ghost use Rattle.geos_potentials.specs.Arcs.{unit_at};
@@ -12,7 +12,7 @@ ghost use Rattle.control_graph.specs.declared.arcs.Counting.TheVariants.{Sets};
 use crate::spread::{Spread, go_on, number_of, only, raise};
 use control_graph::{Arc, Counting, Graph, Order, Piece, Pile};
 use geos_code::Body;
-use pc_tables::{Table, two_tables};
+use geos_image::{Table, two_tables};
 use std::alloc::{AllocError, Global};
 
 /// What is known of counters at each place.

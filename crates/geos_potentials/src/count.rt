@@ -18,9 +18,8 @@ use crate::unpaid::round_by;
 use crate::ways::WaysIn;
 use geos_code::{Body, Known, body_of, is_loop, leads_back};
 use geos_counters::find_touched;
-use geos_image::Image;
+use geos_image::{Image, Table, two_tables};
 use geos_verify::Touched;
-use pc_tables::{Table, two_tables};
 use std::alloc::{AllocError, Global};
 
 /// Steps of a routine are counted from its last instruction to its first; `None` if a number is

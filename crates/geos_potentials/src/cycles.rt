@@ -5,8 +5,7 @@ ghost use Rattle.std.specs.Prelude.{◌<◌, ◌+◌, false};
 use crate::unpaid::lead_unpaid;
 use crate::ways::WaysIn;
 use geos_code::{Body, is_loop, leads_back};
-use geos_image::MOST_INSTRS;
-use pc_tables::Table;
+use geos_image::{MOST_INSTRS, Table};
 
 /// Whether an edge leads back in a routine that is no LOOP's way to its target.
 fn leads_back_unpaid(body: &Body) -> bool {

@@ -1,4 +1,4 @@
-//! Where LOOPs may not pay: the counter there is that of the routine's start, or what a call left.
+//! The LOOPs that may not pay: their counter may still have the value from the routine's start or from a call.
 
 ghost use Rattle.std.specs.Prelude.{◌≡◌, ◌<◌, ◌≤◌, ℕ, true, Some, IfSome};
 ghost use Rattle.geos_counters.specs.Touching.{KnowsTouched, NotesTouched, NotesAllTouched};

@@ -3,8 +3,7 @@
 ghost use Rattle.std.specs.Prelude.{◌<◌, IfSome};
 
 use control_graph::{Order, Piece};
-use geos_image::MOST_INSTRS;
-use pc_tables::{Table, two_tables};
+use geos_image::{MOST_INSTRS, Table, two_tables};
 use std::alloc::{AllocError, Global};
 
 /// What an edge has to do with the unit of the nest that is paid for.

@@ -13,8 +13,7 @@ use crate::classes::Classes;
 use crate::jumps::{loops_spent, may_pay};
 use control_graph::{Components, Graph, Jump, Jumps, Order, Piece, lead_within};
 use geos_code::Body;
-use geos_image::MOST_INSTRS;
-use pc_tables::{Table, two_tables};
+use geos_image::{MOST_INSTRS, Table, two_tables};
 use std::alloc::{AllocError, Global};
 
 /// Why a nest is to be paid for again: the counter of another is set in it, for LOOPs that pay in that one, and a unit of it pays for more.
@@ -256,7 +255,7 @@ impl Splitting {
         }
     }
 
-    /// Makes a nest of a component that was taken. Where no LOOP of it may pay, that is in the way.
+    /// Makes a nest of a component that was taken. Fails with the component if no LOOP in it may pay.
     fn make(
         &mut self,
         body: &Body,

@@ -11,7 +11,7 @@ use crate::idle::{are_noted, lead_idle};
 use control_graph::{Graph, Pile};
 use geos_code::{Body, Known};
 use geos_counters::Touching;
-use pc_tables::{Table, two_tables};
+use geos_image::{Table, two_tables};
 use std::alloc::{AllocError, Global};
 
 /// The rank of each place.

@@ -1,7 +1,7 @@
 //! Why no potentials are found for a routine.
 
 use crate::search::{Halt, Search};
-use geos_causes::BackWay;
+use geos_flow::BackWay;
 
 /// A search that has come to what is in its way.
 #[derive(Drop)]

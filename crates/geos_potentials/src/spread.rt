@@ -11,8 +11,7 @@ ghost use Rattle.control_graph.specs.declared.arcs.Arc.{Arc};
 ghost use Rattle.control_graph.specs.declared.jumps.Jump.TheVariants.{Plain};
 
 use control_graph::{Arc, Graph, Jump, Jumps, Pile};
-use geos_image::MOST_INSTRS;
-use pc_tables::Table;
+use geos_image::{MOST_INSTRS, Table};
 
 /// A number of each counter at each place.
 pub type Spread = Table<[u32; 4]>;

@@ -14,8 +14,7 @@ use crate::paying::{Paying, Rest};
 use crate::ring::find_ring;
 use crate::spread::{Spread, go_back, go_back_free, go_back_from, number_of, only, raise};
 use control_graph::{Arc, Counting, Graph, Jumps, Order, Piece, Pile};
-use geos_image::MOST_INSTRS;
-use pc_tables::two_tables;
+use geos_image::{MOST_INSTRS, two_tables};
 use std::alloc::{AllocError, Global};
 
 /// After so many rounds over the nests it is first looked for some that wait on each other in a ring, and then each time after twice as many.

@@ -5,9 +5,9 @@ ghost use Rattle.geos_counters.specs.Idle.{LeadsUnpaid, IsUnpaidWay, GoesRound};
 
 use crate::cycles::has_unpaid_cycle;
 use crate::ways::{Came, WaysIn};
-use geos_causes::BackWay;
 use geos_code::{Body, edge_in, is_loop};
-use pc_tables::Table;
+use geos_flow::BackWay;
+use geos_image::Table;
 
 /// The target of an edge, if the instruction has the edge, it stays in the routine, and it is not the taken edge of a LOOP.
 pub(crate) fn lead_unpaid(body: &Body, pc: u16, branch: bool) -> Option<u16>

@@ -21,7 +21,7 @@ use Rattle.geos_verify.specs.Touched.{calls}
 use Rattle.geos_verify.proofs.Along.{row_along-used}
 use Rattle.geos_verify.proofs.Pairwise.{all2-refl, all2-set, all2-get, all2-above}
 use Rattle.geos_verify.proofs.RowsAfter.{is-call}
-use Rattle.geos_causes.specs.Slots.{slots_agree}
+use Rattle.geos_flow.specs.Slots.{slots_agree}
 use Rattle.geos_rows.specs.Joins.{agree}
 use Rattle.geos_rows.proofs.Joining.{marks_agree, borrowed_alike}
 

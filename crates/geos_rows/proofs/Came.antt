@@ -7,7 +7,7 @@ use Rattle.geos_image.specs.declared.row.Row.{Row}
 use Rattle.geos_image.specs.Parts.{Parts}
 use Rattle.geos_verify.specs.Rows.{after}
 use Rattle.geos_code.specs.Code.{IsPcOf}
-use Rattle.geos_causes.specs.declared.apart.Coming.{Coming}
+use Rattle.geos_flow.specs.declared.apart.Coming.{Coming}
 use Rattle.geos_flow.specs.declared.edge.Edge.{Edge}
 use Rattle.geos_code.specs.declared.edges.Lead.{Lead}
 use Rattle.geos_code.specs.Edges.{LeadsTo}

@@ -167,7 +167,7 @@ module _ (image : Parts) (r : ℕ) (small : start_of image.routines (r + 1) ≤ 
     want-at : (k : ℕ) → IsPcOf image r k → (w : Row) × (slice_get want k ≡ Some w)
     want-at k k_in = item_at want k (let len = holds.len in let below = k_in.below in omega (arith, len, below, small))
 
-    -- the row that comes fits the one that is wanted
+    -- the row on the edge implies the row that holds at its end
     comes : (goes : GoesAhead image r pc branch known) (w : Row) → slice_get want goes.to ≡ Some w
         → fits (edge_row image goes.i branch (clean goes.row)) w ≡ true
     comes goes w at =
@@ -203,7 +203,7 @@ module _ (image : Parts) (r : ℕ) (small : start_of image.routines (r + 1) ≤ 
         absurd (no-join (known_at known goes.to) (edge_row image goes.i branch (clean goes.row)) w.0 came.1
         (λ old is. B goes.to old w.0 goes.stays is w.1) (comes goes w.0 w.1))
 
--- what a row brings to a place goes on from there
+-- the arrival of a row at the end of its edge makes what spreading along the edge makes
 pub spreads-on : (image : Parts) (r pc : ℕ) (branch : Bool) (lead : Lead) (row : Row) (known next : List (Option Row)) (arrival : Arrival)
     → known_at known pc ≡ Some row → lead.edge.from ≡ pc → lead.edge.branch ≡ branch
     → LeadsTo image pc branch lead.to → IsPcOf image r lead.to → pc < lead.to

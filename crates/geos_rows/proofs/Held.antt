@@ -1,4 +1,4 @@
--- Where rows hold wherever control reaches in a routine, ways meet in it with slots that differ in marks at most.
+-- If rows hold wherever control reaches in a routine, the slots of any two paths to one pc differ in marks at most.
 use Rattle.std.proofs.Common.{◌≡◌, ℕ, Bool, true, List, [], ◌∷◌, Option, Some, slice_get, refl, sym, ap, ◌∙◌, subst}
 use Rattle.std.proofs.lemmas.Option.{same_Some}
 use Rattle.geos_image.specs.declared.row.Row.{Row}

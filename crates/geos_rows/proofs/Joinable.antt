@@ -1,4 +1,5 @@
--- Where ways meet with slots that differ in marks at most, what comes to a place has a join with what is known there.
+-- If the slots of any two paths to one pc differ in marks at most, each row that comes to a pc has a join with the
+-- row known there.
 use Rattle.std.proofs.Common.{◌≡◌, ℕ, ◌+◌, Bool, true, List, [], ◌∷◌, length, Option, Some, None, set, slice_get, refl, sym, ap, ◌∙◌, subst, arith, inl, inr}
 use Rattle.std.proofs.lemmas.Bool.{cases_eq, cases_lt, false≢true}
 use Rattle.std.proofs.lemmas.List.{get_or-set_same, get_or-set_other, set_past}
@@ -17,7 +18,7 @@ use Rattle.geos_rows.specs.Alike.{ComesAlike, AllComeAlike, StaysAlike, GoesAlik
 use Rattle.geos_code.specs.Code.{IsPcOf}
 use Rattle.geos_code.specs.Known.{known_at, clean}
 use Rattle.geos_rows.specs.Flow.{HaveNoJoin, Joins, Arrives, has_joined, Seeded}
-use Rattle.geos_causes.specs.Slots.{slots_agree}
+use Rattle.geos_flow.specs.Slots.{slots_agree}
 use Rattle.geos_rows.specs.Joins.{agree}
 use Rattle.geos_rows.specs.Reached.{Copies}
 use Rattle.geos_code.specs.Edges.{LeadsTo}

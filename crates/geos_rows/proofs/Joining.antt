@@ -8,7 +8,7 @@ use Rattle.geos_image.specs.declared.row.SlotState.{SlotState}
 use Rattle.geos_image.specs.declared.row.SlotState.TheVariants.{Empty, Mem, Vm, Db}
 use Rattle.geos_image.specs.Legal.{is_shaped}
 use Rattle.geos_verify.specs.Rows.{same_flag, mark_fits, slot_fits, pointer_fits, pair_fits, fits}
-use Rattle.geos_causes.specs.Slots.{slots_agree}
+use Rattle.geos_flow.specs.Slots.{slots_agree}
 use Rattle.geos_rows.specs.Joins.{slot_join, pointer_join, pair_join, agree, joined, IsLeastAbove, FitNothing}
 use Rattle.geos_verify.proofs.Pairwise.{both, as_long, as_long-from, all2-above, zip2-left, zip2-right, zip2-least}
 use Rattle.geos_code.proofs.Cleaning.{shape-parts}
@@ -177,7 +177,7 @@ joined-least r s A = record {
 pub apart-fit : (r s : Row) → agree r s ≡ false → FitNothing r s
 apart-fit r s e = λ u h j. false≢true (sym e ∙ (agreeing r s u h j).slots)
 
--- rows of the shape that the format wants
+-- rows of the shape that the format requires
 pub shaped-agree : (r s : Row) → is_shaped r ≡ true → is_shaped s ≡ true → agree r s ≡ true → Agreeing r s
 shaped-agree r s h j e =
     let p = shape-parts r h in

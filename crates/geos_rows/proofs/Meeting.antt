@@ -1,4 +1,4 @@
--- Where all that is known has gone on, no two ways meet with slots that differ in more than marks.
+-- If all that is known has moved along its edges, the slots of any two paths to one pc differ in marks at most.
 use Rattle.std.proofs.Common.{◌≡◌, ℕ, zero, suc, ◌<◌, ◌+◌, Bool, true, false, List, [], ◌∷◌, length, Option, Some, None, slice_get, set, refl, sym, ap, ◌∙◌, subst, arith, inl, inr}
 use Rattle.std.specs.Prelude.{◌||◌}
 use Rattle.std.proofs.lemmas.Bool.{cases_eq, cases_lt, false≢true}
@@ -10,8 +10,8 @@ use Rattle.geos_image.specs.Parts.{Parts, start_of}
 use Rattle.geos_verify.specs.Rows.{after}
 use Rattle.geos_code.specs.Code.{IsPcOf}
 use Rattle.geos_rows.specs.Joins.{agree}
-use Rattle.geos_causes.specs.declared.apart.Apart.{Apart}
-use Rattle.geos_causes.specs.declared.apart.Coming.{Coming}
+use Rattle.geos_flow.specs.declared.apart.Apart.{Apart}
+use Rattle.geos_flow.specs.declared.apart.Coming.{Coming}
 use Rattle.geos_code.specs.declared.body.Body.{Body}
 use Rattle.geos_rows.specs.Why.{IsWay, MeetAlike, AreApart}
 use Rattle.geos_rows.specs.Meeting.{coming_at, waits_at, count_unknown, AllCome, IsMet, BringsAlong, HasGone, IsSpread, NoneWaits, GoesFurther, HaveAllGone}
@@ -103,7 +103,7 @@ spread-first image r start routine known waits begins there none rested in_known
     first : Coming
     first = record { from = None; row = routine.entry; emptied = None ∷ None ∷ None ∷ None ∷ [] }
 
--- What goes on
+-- What moves along edges
 
 count-set : (known : List (Option Coming)) (to : ℕ) (coming : Coming) → to < length known → coming_at known to ≡ None
     → count_unknown (set known to (Some coming)) < count_unknown known

@@ -6,7 +6,7 @@ use Rattle.geos_image.specs.declared.row.Row.{Row}
 use Rattle.geos_image.specs.Parts.{Parts}
 use Rattle.geos_verify.specs.Rows.{after, is_empty, slot_state}
 use Rattle.geos_code.specs.Code.{IsPcOf}
-use Rattle.geos_causes.specs.declared.apart.Emptied.{Emptied}
+use Rattle.geos_flow.specs.declared.apart.Emptied.{Emptied}
 use Rattle.geos_code.specs.Edges.{LeadsTo}
 use Rattle.geos_rows.specs.Why.{ComesFromStart, CallsBeside, IsEmptied, AllEmptied}
 
@@ -18,7 +18,7 @@ named-none image r to row (suc (suc zero)) = tt
 named-none image r to row (suc (suc (suc zero))) = tt
 named-none image r to row (suc (suc (suc (suc a)))) = tt
 
--- a slot that is empty before an edge and behind it stays so
+-- a slot that a CALL has emptied stays so along an edge after which it is empty
 stays-emptied : (image : Parts) (r a pc to : ℕ) (branch : Bool) (before row : Row) (emptied : Emptied)
     → IsEmptied image r a pc before emptied → LeadsTo image pc branch to → IsPcOf image r to → row ≡ after image pc before branch
     → is_empty (slot_state row a) ≡ true → IsEmptied image r a to row emptied
@@ -54,7 +54,7 @@ stays-named image r a pc to branch before row None past leads stays row_is empty
 stays-named image r a pc to branch before row (Some emptied) past leads stays row_is empty =
     stays-emptied image r a pc to branch before row emptied past leads stays row_is empty
 
--- a CALL that is named leaves the slot empty behind it
+-- the named CALL leaves the slot empty
 pub call-named : (image : Parts) (r a pc to : ℕ) (branch : Bool) (before row : Row) (named : Option Emptied)
     → IfSome named (λ (emptied : Emptied). emptied.at ≡ pc) → IfSome named (CallsBeside image r a before) → ComesFromStart image r pc before
     → branch ≡ false → LeadsTo image pc branch to → IsPcOf image r to → row ≡ after image pc before branch

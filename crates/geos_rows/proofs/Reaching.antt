@@ -38,7 +38,7 @@ module _ (image : Parts) (r : ℕ) (some : start_of image.routines r < start_of 
     kept : (pc : ℕ) (row : Row) → IsPcOf image r pc → KnownAt found pc row → KnownAt next pc row
     kept pc row within at = record { known_row = at.known_row; read = K.kept pc at.known_row within.above within.below at.read; fits = at.fits }
 
-    -- so it does where that is kept
+    -- rows that fit still do in a table that has them all
     pub kept-fits : FitWhereReached image r next
     kept-fits = record {
       entry = λ other at. kept (start_of image.routines r) other.entry (record { above = omega arith; below = omega arith }) (fit.entry other at);
@@ -54,7 +54,7 @@ module _ (image : Parts) (r : ℕ) (some : start_of image.routines r < start_of 
           (from.0, K.kept pc from.0 within.above within.below from.1);
     }
 
--- nothing is kept yet
+-- no row is copied yet
 pub keeps-none : (start : ℕ) (found known : List (Option Row)) → Keeps start start found known known
 keeps-none start found known = record { len = refl; kept = λ pc row low high. absurd (omega arith); stays = λ k lt. refl }
 
@@ -71,7 +71,7 @@ keeps-more start pc more found known next o one low within here K = record {
   stays = λ k lt. (let ne : k ≢ pc = (λ same. absurd (omega arith)) in get_or-set_other next pc k o None ne ∙ K.stays k lt);
 }
 
--- one more place is where it stands there already
+-- one more row, which is already there
 pub keeps-same : (start pc more : ℕ) (found known next : List (Option Row)) → more ≡ pc + 1 → known_at next pc ≡ known_at found pc
     → Keeps start pc found known next → Keeps start more found known next
 keeps-same start pc more found known next one here K = record {
@@ -83,11 +83,11 @@ keeps-same start pc more found known next one here K = record {
   stays = K.stays;
 }
 
--- what is copied is kept
+-- a table into which rows are copied has them
 pub copies-keep : (start end : ℕ) (found known next : List (Option Row)) → Copies start end found known next → Keeps start end found known next
 copies-keep start end found known next C = record { len = C.len; kept = λ pc row above below e. C.same pc above below ∙ e; stays = C.stays }
 
--- what is kept up to a later pc is up to an earlier one
+-- rows that a table has up to a later pc, it has up to an earlier one
 pub keeps-to : (start pc end : ℕ) (found known next : List (Option Row)) → end ≤ pc → Keeps start pc found known next
     → Keeps start end found known next
 keeps-to start pc end found known next le K = record {
@@ -103,7 +103,7 @@ pub kept-in : (body : Body) (found known next : List (Option Row)) → Keeps bod
 kept-in body found known next K = subst (λ (n : ℕ). Keeps n (start_of body.image.now.routines (body.r + 1)) found known next)
     body.begins (subst (λ (n : ℕ). Keeps body.start n found known next) body.ends K)
 
--- what is kept of what flowed along all edges has
+-- rows that flowed along all edges still do in a table that has them all
 pub kept-flows : (image : Parts) (r : ℕ) (want : List Row) (found known next : List (Option Row))
     → Keeps (start_of image.routines r) (start_of image.routines (r + 1)) found known next
     → start_of image.routines r < start_of image.routines (r + 1) → length (instrs_of image) ≤ length known

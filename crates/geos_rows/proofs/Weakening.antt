@@ -1,4 +1,4 @@
--- The weakest rows hold where ways meet with slots that differ in marks at most.
+-- The weakest rows hold if the slots of any two paths to one pc differ in marks at most.
 use Rattle.std.proofs.Common.{◌≡◌, ◌≢◌, ℕ, ◌+◌, ◌<◌, ◌≤◌, Bool, true, false, List, [], ◌∷◌, length, map, set, Option, Some, None, slice_get, refl, sym, ap, ◌∙◌, subst, arith, inl, inr}
 use Rattle.std.specs.Prelude.{nat_le, Result, Ok, Err, IfOk, IfNone, is_none}
 use Rattle.std.proofs.lemmas.Bool.{cases_eq, and_parts, false≢true}
@@ -19,15 +19,15 @@ use Rattle.geos_verify.proofs.RowsFit.{fits-from, pointer-none}
 use Rattle.geos_code.specs.Code.{Edge, IsPcOf, instrs_of, edge_end, edge_row}
 use Rattle.geos_code.specs.Known.{known_at, clean}
 use Rattle.geos_rows.specs.Flow.{FlowsAnew}
-use Rattle.geos_causes.specs.Slots.{slots_agree}
+use Rattle.geos_flow.specs.Slots.{slots_agree}
 use Rattle.geos_rows.specs.Joins.{agree}
 use Rattle.geos_rows.specs.Meeting.{coming_at, HaveAllGone}
 use Rattle.geos_rows.specs.Reached.{AllFit, FitWhereReached}
 use Rattle.geos_rows.specs.Weakest.{unmarked, any_words, weakest, weakest_of, IsWeakAt, EdgeIsWeak, AllWeak, Weakens}
 use Rattle.geos_code.specs.Edges.{LeadsTo}
 use Rattle.geos_rows.specs.Why.{AreApart, MeetAlike}
-use Rattle.geos_causes.specs.declared.apart.Apart.{Apart}
-use Rattle.geos_causes.specs.declared.apart.Coming.{Coming}
+use Rattle.geos_flow.specs.declared.apart.Apart.{Apart}
+use Rattle.geos_flow.specs.declared.apart.Coming.{Coming}
 use Rattle.geos_rows.proofs.Alike.{alike-borrowed, alike-both, alike-sym, after-alike}
 use Rattle.geos_rows.proofs.Came.{comes-to}
 use Rattle.geos_code.proofs.Cleaning.{shape-parts}
@@ -189,7 +189,7 @@ module _ (image : Parts) (r : ℕ) (small : start_of image.routines (r + 1) ≤ 
     edges = edge-weak;
   }
 
--- Where ways meet alike
+-- If the slots of paths differ in marks at most
 
 -- no two ways are apart then
 pub never-apart : (image : Parts) (r : ℕ) (apart : Apart) → AreApart image r apart → MeetAlike image r → ⊥

@@ -1,4 +1,4 @@
--- What is known where control comes with slots that differ from it in marks at most.
+-- Known rows whose slots differ from those of paths in marks at most.
 use Rattle.std.specs.Prelude.{◌≡◌, ℕ, Bool, true, List, Option, Some}
 use Rattle.geos_image.specs.declared.row.Row.{Row}
 use Rattle.geos_image.specs.Parts.{Parts}
@@ -15,15 +15,17 @@ pub record ComesAlike (image : Parts) (r pc : ℕ) (row : Row) : Type 0 where
   pub comes : ComesFromStart image r pc came
   pub alike : agree row came ≡ true
 
--- so it does at each pc of routine r where a row is known
+-- the same at each pc of routine r where a row is known
 abbrev pub AllComeAlike : Parts → ℕ → List (Option Row) → Type 0
 AllComeAlike image r known = (pc : ℕ) (row : Row) → IsPcOf image r pc → known_at known pc ≡ Some row → ComesAlike image r pc row
 
--- where the slots of ways that meet differ in marks at most, and so do those of what is known, they still do next, and rows had joins
+-- if the slots of any two paths to one pc differ in marks at most, and the known rows are alike, then rows had joins
+-- and the next known rows are alike
 abbrev pub StaysAlike : Parts → ℕ → List (Option Row) → List (Option Row) → Bool → Type 0
 StaysAlike image r known next done = MeetAlike image r → AllComeAlike image r known → (done ≡ true) × AllComeAlike image r next
 
--- a row goes along an edge within routine r, from where control comes with slots that differ from its own in marks at most
+-- a row flows along an edge within routine r, and control comes to the start of the edge with slots that differ from
+-- those of the row in marks at most
 pub record GoesAlike (image : Parts) (r : ℕ) (lead : Lead) (row : Row) : Type 0 where
   pub comes : ComesAlike image r lead.edge.from row
   pub leads : LeadsTo image lead.edge.from lead.edge.branch lead.to

@@ -8,8 +8,8 @@ use Rattle.geos_verify.specs.Rows.{fits}
 use Rattle.geos_verify.specs.Rules.{names_empty_slot}
 use Rattle.geos_code.specs.Code.{Edge, IsPcOf, ClosedIn, ForwardIn, instrs_of, edge_row}
 
--- rows at the instructions of routine r: its entry row fits the first one; the row after an edge
--- fits the one where it leads; no pointer leads into an empty slot; and no edge leaves the routine
+-- rows at the instructions of routine r: the entry row implies the first row, and the row after an edge implies the
+-- row at its end. No pointer leads into an empty slot, and no edge leaves the routine.
 pub record RowsHoldIn (image : Parts) (r : ℕ) (rows : List Row) : Type 0 where
   pub len : length rows ≡ length (instrs_of image)
   pub closed : ClosedIn image r

@@ -3,32 +3,32 @@ use Rattle.std.specs.Prelude.{◌≡◌, ◌≤◌, ◌<◌, ◌⊎◌, ℕ, Boo
 use Rattle.geos_rows.specs.declared.order.Order.{Order}
 use Rattle.geos_rows.specs.declared.waiting.Waiting.{Waiting}
 
--- the place that has its turn
+-- the pc at a position in the order
 abbrev pub place_at : Order → ℕ → ℕ
 place_at order turn = elim (slice_get order.places turn) [ None ↦ 0 | Some place ↦ place.pc ]
 
--- when a place has its turn
+-- the position of a pc in the order
 abbrev pub turn_at : Order → ℕ → ℕ
 turn_at order pc = elim (slice_get order.turns pc) [ None ↦ 0 | Some turn ↦ turn.turn ]
 
--- a way came to a place
+-- the search has found a path to the place
 abbrev pub is_seen : Order → ℕ → Bool
 is_seen order pc = slice_index_or order.seen pc false
 
--- ways came next to all places to which they did
+-- places to which a path was found stay so
 abbrev pub StaySeen : Order → Order → Type 0
 StaySeen old next = (pc : ℕ) → is_seen old pc ≡ true → is_seen next pc ≡ true
 
--- each place has the turn next that it had, or one of the first so many; those that are left are among these
+-- each pc still has its old position, or has one below n; the positions that are left are below n
 pub record TurnsWithin (n : ℕ) (old next : Order) : Type 0 where
   pub left : next.left ≤ n
   pub turns : (pc : ℕ) → (turn_at next pc ≡ turn_at old pc) ⊎ (turn_at next pc < n)
 
--- a place waits: in its turn one does
+-- a pc waits: its position in the order is flagged
 abbrev pub Waits : Waiting → ℕ → Type 0
 Waits waiting pc = slice_index_or waiting.waits (turn_at waiting.order pc) false ≡ true
 
--- none does in any turn, and of no place less than a join was kept
+-- no position is flagged, and each weakened row is an exact join
 pub record NoneWaits (waiting : Waiting) : Type 0 where
   pub none : (turn : ℕ) → slice_index_or waiting.waits turn false ≡ false
   pub joined : waiting.widened ≡ false

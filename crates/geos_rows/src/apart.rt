@@ -6,12 +6,10 @@ ghost use Rattle.geos_rows.specs.Why.{ComesBy, AllEmptied, AreApart, MeetAlike};
 
 use crate::common::agree;
 use crate::emptied::emptied_along;
-use geos_causes::{Apart, Coming, Emptied};
 use geos_code::{Body, Lead, edge_in};
-use geos_flow::Edge;
-use geos_image::Row;
+use geos_flow::{Apart, Coming, Edge, Emptied};
+use geos_image::{Row, Table, two_tables};
 use geos_verify::after;
-use pc_tables::{Table, two_tables};
 use std::alloc::{AllocError, Global};
 
 /// How control was first found to come to each place.

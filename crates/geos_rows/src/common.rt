@@ -2,11 +2,11 @@
 
 ghost use Rattle.std.specs.Prelude.{◌≡◌, max, IfSome, IfNone};
 ghost use Rattle.geos_verify.specs.Lists.{zip2};
-ghost use Rattle.geos_causes.specs.Slots.{slots_agree};
+ghost use Rattle.geos_flow.specs.Slots.{slots_agree};
 ghost use Rattle.geos_rows.specs.Joins.{slot_join, pointer_join, pair_join, agree, joined, join, IsLeastAbove, FitNothing};
 
-use geos_causes::slots_agree;
 use geos_code::shape;
+use geos_flow::slots_agree;
 use geos_image::{Pointer, Row, SlotState};
 use geos_verify::slot_fits;
 

@@ -6,8 +6,8 @@ ghost use Rattle.geos_code.specs.Code.{IsPcOf};
 ghost use Rattle.geos_code.specs.Edges.{LeadsTo};
 ghost use Rattle.geos_rows.specs.Why.{CallsBeside, IsEmptied, AllEmptied, IsComing};
 
-use geos_causes::{Coming, Emptied};
 use geos_code::{Body, Lead};
+use geos_flow::{Coming, Emptied};
 use geos_image::{Opcode, Row};
 use geos_verify::{is_empty, slot_state};
 

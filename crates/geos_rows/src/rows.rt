@@ -17,10 +17,9 @@ use crate::seeds::{copy_rows, seed_entry};
 use crate::waiting::Waiting;
 use crate::weakened::weaken;
 use crate::weakest::find_weakest;
-use geos_causes::Apart;
 use geos_code::{Body, Known, body_of, leads_back};
-use geos_image::Image;
-use pc_tables::two_tables;
+use geos_flow::Apart;
+use geos_image::{Image, two_tables};
 use std::alloc::{AllocError, Global};
 
 /// What is written anew for each routine in which rows flow back, or that has places that nothing reaches.

@@ -5,8 +5,7 @@ ghost use Rattle.std.specs.Prelude.{◌<◌};
 use crate::order::Order;
 use crate::widening::Kept;
 use geos_code::{Body, Lead};
-use geos_image::MOST_INSTRS;
-use pc_tables::{Table, two_tables};
+use geos_image::{MOST_INSTRS, Table, two_tables};
 use std::alloc::{AllocError, Global};
 
 /// How often a place went along its edges, and how often an edge that leads back in the order of the places weakened it.

@@ -8,8 +8,8 @@ ghost use Rattle.geos_rows.specs.Why.{AreApart};
 
 use crate::apart::{Comings, find_comings};
 use crate::fitted::all_fit;
-use geos_causes::{Apart, Coming};
 use geos_code::{Body, Known};
+use geos_flow::{Apart, Coming};
 use geos_image::{Row, SlotState};
 use std::alloc::{AllocError, Global};
 

@@ -67,7 +67,7 @@ pairs-without slots a x flags h = each-pair slots (set slots a x) (λ known pair
         let apart = or_parts (pair.0 == a) (pair.1 == a) (not-true (has_slot a pair) p.1) in
         m p.0 name (sym (other-slot slots a pair.0 x apart.0) ∙ e) (sym (other-slot slots a pair.1 x apart.1) ∙ f)
 
--- a slot that was empty holds a block that no slot held: it differs from each other one
+-- a slot that was empty gets a block that no slot had, so it differs from each other slot
 pub pairs-new : (slots : List (Option Held)) (a : ℕ) (new : Held) (test : ℕ → Bool) (flags : List Bool)
     → get_or slots a None ≡ None → ((k : ℕ) → name_held (get_or slots k None) ≡ Some (name_of new) → ⊥)
     → Each2 (PairMeets slots) flags slot_pairs → Each2 (PairMeets (set slots a (Some new))) (with_pairs a test flags) slot_pairs

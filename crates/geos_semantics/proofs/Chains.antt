@@ -1,4 +1,4 @@
--- What is kept for the routines that are to be returned to, and how many they may be.
+-- The steps that are reserved for the routines that will be returned to, and how many such routines there may be.
 use Rattle.std.proofs.Common.{◌≡◌, ℕ, zero, suc, ◌+◌, ◌*◌, ◌≤◌, ◌<◌, true, Some, List, [], ◌∷◌, ◌++◌, length, slice_get, refl, sym, ap, arith, set, get_or}
 use Rattle.geos_verify.specs.declared.place.Place.{Place}
 use Rattle.geos_verify.specs.Places.{places}
@@ -6,9 +6,9 @@ use Rattle.geos_verify.proofs.Places.{point-of}
 use Rattle.geos_image.specs.declared.potential.Potential.{Potential}
 use Rattle.geos_image.specs.Parts.{Parts}
 use Rattle.geos_verify.specs.Touched.{touches}
-use Rattle.geos_semantics.specs.Lists.{dot}
+use Rattle.geos_verify.specs.Potentials.{dot, value}
 use Rattle.geos_semantics.specs.State.{Frame}
-use Rattle.geos_semantics.specs.Theorem.{value, value_at, kept, Chain}
+use Rattle.geos_semantics.specs.Theorem.{value_at, kept, Chain}
 
 -- a counter on which nothing is counted may be anything
 dot-spent : (cs ks : List ℕ) (i v : ℕ) → get_or cs i 0 ≡ 0 → dot cs (set ks i v) ≡ dot cs ks
@@ -41,7 +41,7 @@ pub chain-depth : (image : Parts) (root r : ℕ) (frames : List Frame) → Chain
 chain-depth image root r [] chain = omega (arith, chain)
 chain-depth image root r (frame ∷ frames) chain = omega (arith, chain.0.lower, chain-depth image root frame.routine frames chain.1)
 
--- no fewer returns stand on the stack than below the run
+-- the stack has at least the returns from below the run
 pub within-run : (frames below : List Frame) → length below ≤ length (frames ++ below)
 within-run [] below = omega arith
 within-run (frame ∷ frames) below = omega (arith, within-run frames below)

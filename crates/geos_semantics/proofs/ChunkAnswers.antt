@@ -31,7 +31,7 @@ some-is : {X : Type 0} (o : Option X) (d : X) → is_none o ≡ false → o ≡ 
 some-is None d h = absurd cc
 some-is (Some x) d h = refl
 
--- the array of a chunk, as its bytes spell it
+-- the bytes of a chunk encode its array
 array-read : (m : Memory) (name : Name) (c : ℕ) → IsMemory m → is_none (arr (bytes_of (chunks_at m name) c)) ≡ false
     → Reads (bytes_of (chunks_at m name) c) (array_of (chunks_at m name) c)
 array-read m name c legal is =
@@ -54,7 +54,7 @@ make-most choice m name (Canew k) fine =
     let new = (create_array k cs).chunks in
     handle-fits cs new 8 (length-set (with_new cs 8) (entry_of (new_handle cs)) (Some (spelled (empty k)))) (grown-small choice m name [] new fine)
 
--- a number that is told is a word
+-- a number that a call returns is a word
 pub ask-most : (choice : Choice) (m : Memory) (name : Name) (ask : Ask) → IsMemory m → first_refusal (ask_row name ask choice m).refusals ≡ None
     → (ask_row name ask choice m).answer ≤ 65535
 ask-most choice m name (Lsize c) legal fine = length-most m name c legal
@@ -64,7 +64,7 @@ ask-most choice m name (Cacount c) legal fine =
     let word = word-most (bytes_of (chunks_at m name) c) 0 (bytes_of-legal (chunks_at m name) c (chunks-bytes m name legal)) in
     omega (arith, counted, word)
 
--- bytes that are referred to are part of their chunk, and as many as are asked for
+-- a reference that a call returns is part of its chunk, and at least as long as the call requires
 pub refer-led : (choice : Choice) (m : Memory) (name : Name) (refer : Refer) → IsMemory m
     → first_refusal (refer_row name refer choice m).refusals ≡ None
     → IsInChunk m (refer_row name refer choice m).answer × (least refer ≤ (refer_row name refer choice m).answer.len)

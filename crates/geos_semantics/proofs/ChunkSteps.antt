@@ -62,7 +62,7 @@ module _ (moment : Moment) where
       telling-well moment LooksAt refl G.point.instr.b 65535 (omega arith) L B (ask_row name ask) choice
       (refl, refl, λ r. refl) (ask-most choice s.memory name ask G.sound.memory)
 
-  -- the verifier knows of as many bytes as are wanted
+  -- the row has at least as many bytes for the pointer as the instruction requires
   pub referring-well : is_none (kind_at s G.point.instr.a) ≡ false → Leads image s.routine G.routine (s.pc + 1)
       (pointing_row moment) (pays G.point.potential)
       → Leads image s.routine G.routine G.point.instr.target (rows.refused G.point.instr LooksAt G.point.row) (pays G.point.potential)

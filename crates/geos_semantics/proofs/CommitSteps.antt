@@ -61,7 +61,7 @@ none-held (x ∷ xs) h free =
     let parts = or_parts (holds_of_file x) (list_any holds_of_file xs) free in
     omega (arith, sum_by-cons (holds_once (vm h)) x xs, held-once h x parts.0, none-held xs h parts.1)
 
--- what is held then is in global memory
+-- then a block in a slot is in global memory
 held-mem : (held : Held) → holds_of_file (Some held) ≡ false → held.kind ≡ MemBlock
 held-mem held free = by held.kind free
   where

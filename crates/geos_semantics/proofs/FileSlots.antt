@@ -142,7 +142,7 @@ fine-marked base s row i kind S M listed legal =
 
 -- A block of the VM file is made and locked
 
--- a block of the VM file that is held
+-- a block of the VM file in a slot
 abbrev held_vm : ℕ → Held
 held_vm h = record { kind = VmBlock; handle = h; borrowed = false }
 
@@ -172,7 +172,7 @@ new-into base s uid plain legal once =
           record { bytes = k.bytes; there = rw (ap chunks_in same) k.there; fits = k.fits };
     }
 
--- a group that is held
+-- a group in a slot
 abbrev held_group : ℕ → Held
 held_group h = record { kind = DbGroup; handle = h; borrowed = false }
 

@@ -31,7 +31,7 @@ use Rattle.geos_semantics.proofs.Fine.{fine-word, fine-nothing}
 use Rattle.geos_semantics.proofs.Moments.{Moment, StepsWell, along_edge, branch_edge, fine-goes}
 use Rattle.geos_semantics.proofs.KernelSteps.{fine-unchanged, calls-well, freeing-well, telling-well}
 
--- memory in which each block is as it was, whatever else of the file is not
+-- memory in which each block is as it was, whatever changes in the rest of the file
 pub leaves-blocks : (a : ℕ) (old new : Memory) → IsMemory new → new.blocks ≡ old.blocks → new.file.cur.blocks ≡ old.file.cur.blocks
     → Leaves a Nothing old new
 leaves-blocks a old new legal blocks listed = record {
@@ -79,7 +79,7 @@ module _ (moment : Moment) where
       (branch_edge moment op.Vuid is refl) (vuid (word s i.b)) choice (refl, refl, λ r. refl)
       (λ e. uid-small s.memory (word s i.b) G.sound.memory)
 
-  -- what is mapped is told without a refusal
+  -- VGETMAP is never refused
   pub vgetmap-well : StepsWell moment op.Vgetmap
   vgetmap-well is choice =
       let i = G.point.instr in

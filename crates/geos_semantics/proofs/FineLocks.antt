@@ -63,7 +63,7 @@ not-new m name other none h = go (same_name name other) refl
 abbrev pub new_block : Block
 new_block = record { locks = 1; heap = new_heap }
 
--- a block of global memory that is held
+-- a block of global memory in a slot
 abbrev pub held_mem : ℕ → Held
 held_mem h = record { kind = MemBlock; handle = h; borrowed = false }
 
@@ -93,7 +93,7 @@ makes-into base s h lowest legal =
           record { bytes = k.bytes; there = rw (ap chunks_in (block_of-other s.memory (mem h) ref.name (Some new_block) ne)) k.there; fits = k.fits };
     }
 
--- memory after a lock was given back
+-- memory after an unlock
 pub unlocks : (s : State) (name : Name) → is_none (block_of s.memory name) ≡ false
     → IsMemory (with_locks s.memory name (locks_of s.memory name - 1)) → GivesBack s name (with_locks s.memory name (locks_of s.memory name - 1))
 unlocks s name there legal =
@@ -107,7 +107,7 @@ unlocks s name there legal =
     }
 
 module _ (base : Base) (s : State) (row : Row) (S : Sound base s) (M : Meets s row) (i : Instr) (within : i.a < 4) where
-  -- a slot that held nothing holds a block, as is known of it
+  -- an empty slot gets a block, with the state that the row knows
   locked-slots : (locked : Held) (state : SlotState) (new : Memory) → LocksInto base s locked new
       → SlotMeets new (Some locked) state → Each2 (SlotMeets new) (set s.slots i.a (Some locked)) (set row.slots i.a state)
   locked-slots locked state new L known = each2-set (SlotMeets new) s.slots row.slots i.a (Some locked) state
@@ -166,7 +166,7 @@ module _ (base : Base) (s : State) (row : Row) (S : Sound base s) (M : Meets s r
           → PointerMeets (kept_pointer i.a (OfLock name) p) (stale_where (λ b. b == i.a) q)
       one p q sound m = pointer-kept i.a (OfLock name) (λ b. b == i.a) p q (λ target is r known slot_is test. rw slot_is test) m
 
-  -- a lock is given back, and the slot is empty
+  -- a block is unlocked, and its slot becomes empty
   pub fine-unlocked : (kind : Kind) (name : Name) (new : Memory) → name_held (slot s i.a) ≡ Some name
       → is_borrowed (slot s i.a) ≡ false → GivesBack s name new
       → Fine base s (record s { memory = new; slots = set s.slots i.a None; pointers = kept_pointers i.a (OfLock name) s.pointers })

@@ -46,7 +46,7 @@ module _ (m : Memory) (h : ℕ) (marked : Bool) where
   owned-mark Vm k = entry-told (option_map block_in_file) m.file.cur.blocks h k (option_map (marked_block marked) (listed_at m h)) None
       (block-marked marked (listed_at m h))
 
-  -- but for its mark, each block is as it was
+  -- each block is as it was, except for its mark
   pub block_of-mark : (name : Name) → block_of (with_mark m h marked) name ≡ block_of m name
   block_of-mark name = owned-mark name.owner name.h
 

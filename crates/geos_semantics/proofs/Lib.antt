@@ -11,7 +11,6 @@ pub mod Fine
 pub mod FineLocks
 pub mod Items
 pub mod NewListed
-pub mod Paid
 pub mod Bounds
 pub mod ChunkAnswers
 pub mod Moments

@@ -126,7 +126,7 @@ module _ (base : Base) (s : State) (a : ℕ) (locked : Held) (new : Memory) (S :
         (kept_pointer a Nothing) pointer-locked s.pointers S.pointers;
   }
 
--- A lock that is given back: the slot is empty, and what led through it is stale
+-- An unlock: the slot becomes empty, and the pointers through it become stale
 
 pub record GivesBack (s : State) (name : Name) (new : Memory) : Type 0 where
   pub legal : IsMemory new
@@ -185,7 +185,7 @@ module _ (base : Base) (s : State) (a : ℕ) (name : Name) (new : Memory) (S : S
         (kept_pointer a (OfLock name)) pointer-unlocked s.pointers S.pointers;
   }
 
--- A block that is freed is held by no slot
+-- No slot has a block that is freed
 
 module _ (base : Base) (s : State) (a : ℕ) (name : Name) (new : Memory) (S : Sound base s) (free : locks_of s.memory name ≡ 0)
     (legal : IsMemory new) (L : LeavesOthers (OneBlock name) s.memory new) (gone : locks_of new name ≡ 0) where

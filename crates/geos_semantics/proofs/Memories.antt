@@ -17,7 +17,7 @@ use Rattle.geos_calls.specs.Legal.{IsMemory}
 use Rattle.geos_terms.proofs.Costs.{cost-over}
 use Rattle.geos_calls.proofs.Laws.{entry-other}
 use Rattle.geos_calls.proofs.LegalBlocks.{chunks-need}
-use Rattle.geos_calls.proofs.HandleLists.{none-is}
+use Rattle.geos_calls.proofs.HandleLists.{allowed-some, none-is}
 use Rattle.geos_calls.proofs.NamedBlocks.{told-mapped}
 pub use Rattle.geos_calls.proofs.NamedBlocks.{block_of-mapped, block_of-gone, locks_of-chunks, locks_of-set}
 use Rattle.geos_semantics.specs.State.{same_owner, same_name}
@@ -96,7 +96,7 @@ locks_of-other m name other n ne = ap locks_in (block_of-other m name other (opt
 -- it names no block, and a block that is put there is there
 pub lowest-free : (m : Memory) (h : ℕ) (b : Option Block) → lowest_handle m Mem ≡ Some h → (block_of m (mem h) ≡ None)
     × (block_of (with_block m (mem h) b) (mem h) ≡ b)
-lowest-free m h b e = go (position is_none m.blocks) refl e
+lowest-free m h b e = go (position is_none m.blocks) refl (allowed-some m.handles (lowest_of m.blocks) h e)
   where
     go : (o : Option ℕ) → position is_none m.blocks ≡ o → option_map suc o ≡ Some h → (block_of m (mem h) ≡ None)
         × (block_of (with_block m (mem h) b) (mem h) ≡ b)
@@ -116,7 +116,9 @@ lowest-within xs = go (position is_none xs) refl
     go (Some k) p = let found = position-Some is_none xs k None p in omega (arith, found.0)
 
 pub lowest-small : (m : Memory) (h : ℕ) → lowest_handle m Mem ≡ Some h → h ≤ length m.blocks
-lowest-small m h e = (let is : unwrap_or (lowest_handle m Mem) 0 ≡ h = ap (λ o. unwrap_or o 0) e in omega (arith, lowest-within m.blocks, is))
+lowest-small m h e =
+    let is : unwrap_or (lowest_of m.blocks) 0 ≡ h = ap (λ o. unwrap_or o 0) (allowed-some m.handles (lowest_of m.blocks) h e) in
+    omega (arith, lowest-within m.blocks, is)
 
 -- Chunks
 

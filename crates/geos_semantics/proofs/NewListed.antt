@@ -39,6 +39,7 @@ module _ (m : Memory) (uid n : ℕ) where
     blocks = λ k out. refl;
     listed = λ k out. entry-other None (Some (new_listed uid n)) m.file.cur.blocks (new_vm m).h k (λ e. out (ap vm (sym e)));
     region = refl;
+    handles = refl;
   }
 
   -- a block that is there is not the one that is made

@@ -13,13 +13,12 @@ use Rattle.geos_opcodes.specs.declared.opcode.Opcode.TheVariants as op
 use Rattle.geos_image.specs.declared.potential.Potential.{Potential}
 use Rattle.geos_verify.specs.Rows.{bound, with_bound, or_any}
 use Rattle.geos_verify.specs.Touched.{counts, touches}
-use Rattle.geos_verify.specs.Potentials.{pays, pays_setting, pays_taking}
+use Rattle.geos_verify.specs.Potentials.{pays, pays_setting, pays_taking, value}
 use Rattle.geos_verify.proofs.Noted.{touches-own}
 use Rattle.geos_semantics.specs.State.{word, with_word, counter, with_counter, goto, along}
 use Rattle.geos_semantics.specs.Model.{Next, answer, branch, most_output}
-use Rattle.geos_semantics.specs.Theorem.{value}
 use Rattle.geos_semantics.proofs.Chains.{kept-set}
-use Rattle.geos_semantics.proofs.Paid.{pays_setting-value, pays_taking-value}
+use Rattle.geos_verify.proofs.Paid.{pays_setting-value, pays_taking-value}
 use Rattle.geos_semantics.proofs.NoFaults.{word-small}
 use Rattle.geos_semantics.proofs.Rows.{word-bound, sum-bound, meets-capped, product-bound, and-bound, shift-bound}
 use Rattle.geos_verify.proofs.Leads.{Leads}
@@ -80,7 +79,7 @@ module _ (moment : Moment) where
 
   -- Branches
 
-  -- control goes to the target where the test holds, and else on, with nothing changed
+  -- control goes to the target if the test holds, otherwise to the next instruction, and nothing changes
   branch-well : (test : Bool) → Leads image s.routine G.routine G.point.instr.target G.point.row (pays G.point.potential)
       → Leads image s.routine G.routine (s.pc + 1) G.point.row (pays G.point.potential) → Well moment (branch test G.point.instr s)
   branch-well true B L = fine-goes moment s G.point.instr.target G.point.row B (fine-here moment)

@@ -1,4 +1,4 @@
--- What slots know of blocks stays so, whatever else becomes of memory.
+-- What slots know of blocks stays true, whatever changes in the rest of memory.
 use Rattle.std.proofs.Common.{◌≡◌, ℕ, suc, true, false, Option, Some, None, List, [], ◌∷◌, get_or, refl, sym, ap, ◌∙◌, subst}
 use Rattle.std.specs.Prelude.{◌==◌, not, IsSome, is_none, option_map}
 use Rattle.geos_terms.specs.declared.name.Name.{Name}
@@ -121,11 +121,13 @@ owned-others m owner.Mem h block = record {
   listed =
       λ k out. refl;
   region = refl;
+  handles = refl;
 }
 owned-others m owner.Vm h block = record {
   blocks = λ k out. refl;
   listed = λ k out. entry-other None (option_map (relisted (listed_at m h)) block) m.file.cur.blocks h k (λ e. out (ap vm (sym e)));
   region = refl;
+  handles = refl;
 }
 
 -- a named block is written

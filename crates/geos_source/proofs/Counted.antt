@@ -22,7 +22,7 @@ use Rattle.geos_source.specs.Texts.{take_labels, take_line, take_lines, too_long
 use Rattle.geos_source.proofs.Quiet.{first-none, least-none, at_line-none, some_there, unless_some, taken_by, take_lines-quiet}
 use Rattle.geos_source.proofs.Ended.{code_is}
 
--- one, if it is so
+-- one if b is true, otherwise 0
 abbrev one_if : Bool → ℕ
 one_if b = if b then 1 else 0
 
@@ -59,7 +59,7 @@ line-counted names n line t quiet =
     let parts = parted (said line) in
     words-counted names n parts.statement (record t { progress = take_labels n (not (is_empty parts.labels)) t.progress }) quiet
 
--- a number more, if it is so
+-- a list with one number more, if there is one
 numbers-counted : (has : Bool) (n : ℕ) (numbers : List ℕ) → length (if has then n ∷ numbers else numbers) ≡ one_if has + length numbers
 numbers-counted true n numbers = omega arith
 numbers-counted false n numbers = omega arith
@@ -100,13 +100,13 @@ no_fault-parts text twice fault rest e =
     let both = first-none (first (too_long text) twice) (first fault rest) (sym e) in
     (short-text text (first-none (too_long text) twice both.0).0, (first-none fault rest both.1).0)
 
--- the numbers behind one more line are those from there on
+-- the numbers after one more line are those from there on
 pub one-more : (has : Bool) (n : ℕ) (old rest new : List ℕ) → new ≡ with_number_if has n old
     → old ++ (if has then n ∷ rest else rest) ≡ new ++ rest
 one-more true n old rest new is = sym (append_assoc old (n ∷ []) rest) ∙ ap (λ numbers. numbers ++ rest) (sym is)
 one-more false n old rest new is = ap (λ numbers. numbers ++ rest) (sym is)
 
--- behind an instruction that leaves no fault, it has none
+-- an instruction after which there is no fault has none itself
 pub instr-quiet : (line : ℕ) (read : Result Instr Why) (others why : Option Why) (old new : Progress) → new ≡ with_instr_at line why old
     → why ≡ least (why_of read) others → new.fault ≡ None → (why ≡ None) × (why_of read ≡ None)
 instr-quiet line read others why old new is known quiet =

@@ -1,4 +1,4 @@
--- The code of a text without fault may stand in an image.
+-- The code of a text without fault is legal in an image.
 use Rattle.std.proofs.Common.{◌≡◌, ◌<◌, ◌≤◌, ℕ, zero, suc, true, List, [], ◌∷◌, map, Option, Some, None, Ok, length, refl, subst, arith, lt-ltb, le-leb, eq-eqb}
 use Rattle.std.specs.Prelude.{◌&&◌, nat_lt, nat_le, ◌==◌, replicate}
 use Rattle.std.specs.List.{list_all}
@@ -66,7 +66,7 @@ blank_points-given most [] le = refl
 blank_points-given zero (i ∷ code) le = absurd (omega (arith, le))
 blank_points-given (suc most) (i ∷ code) le = blank_points-given most code (omega (arith, le))
 
--- what a text without fault tells may stand in an image
+-- what a text without fault says is legal in an image
 ended : (d : Declared) (t : Draft) → Told d.names d t → (close t).progress.fault ≡ None → without_routine t.progress.part ≡ None
     → is_formed true (bare_whole (record { routines = all_of t; instrs = t.code })) ≡ true
 ended d t h quiet inside =
@@ -96,7 +96,7 @@ pub code_is : (t : Draft) (fault : Option BadLine) (code : Code) → unless_bad 
 code_is t None code e = (refl, cc)
 code_is t (Some fault) code e = absurd cc
 
--- the code of a text without fault may stand in an image
+-- the code of a text without fault is legal in an image
 pub no_fault-formed : (text : List ℕ) (code : Code) → code_of text ≡ Ok code → is_formed true (bare_whole code) ≡ true
 no_fault-formed text code e =
     let d = declared (lines text) in

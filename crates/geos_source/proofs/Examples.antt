@@ -18,7 +18,7 @@ use Rattle.geos_source.specs.Texts.{take_line, fault_of, code_of}
 abbrev bad : ℕ → Why → Option BadLine
 bad line why = Some (record { line = line; why = why })
 
--- behind a first line that begins a routine
+-- the fault of lines that follow the first line of a routine
 abbrev behind_routine : List ℕ → Option BadLine
 behind_routine text = fault_of (codes "routine a public budget 9\n" ++ text)
 
@@ -47,7 +47,7 @@ faults_computed = record {
   empty = refl;
 }
 
--- names have 1 to 16 letters, digits and underscores; a `:` behind a name makes a label
+-- names have 1 to 16 letters, digits and underscores; a name and a `:` make a label
 pub record Names : Type 0 where
   pub sixteen : name_of (codes "abcdefghijklmnop") ≡ Some (codes "abcdefghijklmnop")
   pub seventeen : name_of (codes "abcdefghijklmnopq") ≡ None
@@ -103,8 +103,8 @@ operands_computed = record {
   zeros = refl;
 }
 
--- lines out of place: rows behind an instruction or twice, labels that no instruction follows,
--- instructions before any routine
+-- lines out of place: rows after an instruction or twice, labels that no instruction follows, instructions before any
+-- routine
 pub record Places : Type 0 where
   pub second_in : behind_routine (codes "in\nin\nRET") ≡ bad 3 OutOfPlace
   pub rows : behind_routine (codes "out\nin\nRET") ≡ None

@@ -18,7 +18,7 @@ pub record LegalHead (r : Routine) : Type 0 where
   pub entry : is_row true r.entry ≡ true
   pub exit : is_row true r.exit ≡ true
 
--- a routine of this name that has just begun
+-- a routine of this name that has no instruction yet
 record Begun (name : Option (List ℕ)) (r : Routine) : Type 0 where
   named : name ≡ Some r.name
   empty : r.count ≡ 0

@@ -28,7 +28,7 @@ worth-suc : (i b : ℕ) → byte_worth (suc i) b ≡ byte_worth i b * 256
 worth-suc zero b = omega arith
 worth-suc (suc i) b = ap (λ n. b * n) (pow-suc 256 (suc i)) ∙ sym (mul_assoc b (256 ^ suc i) 256)
 
--- and so is a sum of such bytes
+-- so a sum of bytes one place up is worth 256 times as much
 sum-times : (f g : ℕ → ℕ) (k : ℕ) → ((i : ℕ) → f i ≡ g i * 256) → sum_through f k ≡ sum_through g k * 256
 sum-times f g zero h = h 0
 sum-times f g (suc k) h = let front = sum-times f g k h in omega (arith, h (suc k))
@@ -42,7 +42,7 @@ sum-first f (suc k) = let front = sum-first f k in omega arith
 abbrev worth : (ℕ → ℕ) → ℕ → ℕ
 worth byte k = sum_through (λ i. byte_worth i (byte i)) k
 
--- the bytes behind the first are one place up
+-- the bytes after the first are one place up
 worth-first : (byte : ℕ → ℕ) (k : ℕ) → worth byte (suc k) ≡ worth (λ i. byte (suc i)) k * 256 + byte 0
 worth-first byte k =
     let first = sum-first (λ i. byte_worth i (byte i)) k in
@@ -88,7 +88,7 @@ key_of-apart a b p q same =
     same_number_lists a b (omega arith)
     (λ k lt. worth-apart (slice_index a) (slice_index b) 15 (λ i le. first.1 i (omega arith)) (λ i le. second.1 i (omega arith)) same k (omega arith))
 
--- so names are told apart by their keys
+-- so the keys of two names are equal exactly if the names are
 key_of-tells : (a b : List ℕ) → is_keyed a ≡ true → is_keyed b ≡ true → is_eq (nat_cmp (key_of a) (key_of b)) ≡ bytes_eq a b
 key_of-tells a b p q =
     unsigned_tied (key_of a) (key_of b)

@@ -14,7 +14,7 @@ unfolding is_name_byte
 not_zero zero h = absurd cc
 not_zero (suc b) h = rw (ne_eqb (suc b) 0 (λ same. omega arith)) refl
 
--- the bytes of a name reach to the first zero behind them
+-- the bytes of a name end at the first zero
 text_reaches : (word : List ℕ) (k : ℕ) → list_all is_name_byte word ≡ true → prefix_len (λ b. not (b == 0)) (word ++ replicate k 0) ≡ length word
 text_reaches [] zero h = refl
 text_reaches [] (suc k) h = refl

@@ -29,7 +29,7 @@ is_named-push name done r =
     ∙ list_any-append (λ (x : Routine). bytes_eq x.name name) (map routine_of done) (r.routine ∷ [])
     ∙ ap (λ b. is_named name (map routine_of done) || b) (or_nothing (bytes_eq r.routine.name name))
 
--- a routine that may stand behind others
+-- what makes a routine legal after others
 pub is_routine-from : (earlier : List Routine) (r : Routine) → is_name r.name ≡ true → is_named r.name earlier ≡ false
     → 0 < r.count → is_row true r.entry ≡ true → is_row true r.exit ≡ true → is_routine true earlier r ≡ true
 is_routine-from earlier r name new some entry exit =

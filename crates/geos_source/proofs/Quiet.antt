@@ -1,4 +1,4 @@
--- Where no fault is named, there was none before.
+-- If a step reports no fault, there was none before.
 use Rattle.std.proofs.Common.{◌≡◌, ◌<◌, ◌+◌, ℕ, Bool, true, false, cond, ◌||◌, if◌then◌else◌, not, List, [], ◌∷◌, Option, Some, None, length, codes, bytes_eq, refl, leb-false}
 use Rattle.std.specs.Prelude.{nat_le}
 use Rattle.geos_image.specs.declared.instr.Instr.{Instr}

@@ -28,14 +28,14 @@ all_of t = with_current t.routines t.progress.current
 abbrev pub LegalInstr : Names → Instr → Type 0
 LegalInstr names i = (routines instrs : ℕ) → TableBelow routines names.routines → TableBelow instrs names.labels → is_instr routines instrs i ≡ true
 
--- the routine may stand behind those that are complete, as soon as it has an instruction
+-- the routine is legal after those that are complete, as soon as it has an instruction
 pub record MayStandBehind (done : List TextRoutine) (r : Routine) : Type 0 where
   pub name : is_name r.name ≡ true
   pub new : is_named r.name (map routine_of done) ≡ false
   pub entry : is_row true r.entry ≡ true
   pub exit : is_row true r.exit ≡ true
 
--- what is known of the routine that has begun, by where the next line stands
+-- what is known of the routine that has begun, by the part in which the next line is
 abbrev pub Current : Part → List TextRoutine → Option TextRoutine → Type 0
 Current Outside done None = Unit {0}
 Current Outside done (Some r) = ⊥

@@ -22,7 +22,7 @@ use Rattle.geos_source.proofs.Quiet.{some_there, first-none, least-none, at_line
 use Rattle.geos_source.proofs.Told.{all_of, LegalInstr, Told, labels-told, begun-told}
 use Rattle.geos_source.proofs.ToldParts.{in_part-told, out_part-told, instr_part-told}
 
--- what the words behind `routine` make, if they have no fault
+-- the routine that the words after `routine` make, if they have no fault
 abbrev MadeIfRead : Result Routine Why → Option (List ℕ) → Type 0
 MadeIfRead read name = (r : Routine) → read ≡ Ok r → (name ≡ Some r.name) × (r.count ≡ 0) × LegalHead r
 
@@ -53,8 +53,7 @@ routine-told names n (Ok r) name None d t made room h single quiet =
     subst (λ (o : Option (List ℕ)). Told names (one_more_routine (with_routine_name n o d))
     (record { routines = all_of t; code = t.code; progress = begun n (Ok r) None (closed t.progress) })) (sym from.0) told
 
--- where a line of a row has no fault, the row is read, no label waits, and the line stands where
--- it may
+-- if the line of a row has no fault, the row is read, no label waits, and the line is in its place
 row_line-quiet : (n : ℕ) (read : Result Row Why) (misplaced : Option Why) (p : Progress)
     → first (drop_labels p).fault (at_line n (least (why_of read) misplaced)) ≡ None
     → (row : Row) × (read ≡ Ok row) × (p.waiting ≡ None) × (misplaced ≡ None)
@@ -87,7 +86,7 @@ out-told names n read d t legal h quiet =
     subst (λ (other : Result Row Why). Told names d
     (record { routines = t.routines; code = t.code; progress = take_out n other (drop_labels t.progress) })) (sym line.1) told
 
--- an instruction that is read, and stands where it may
+-- an instruction that is read, and is in its place
 instr_read-told : (names : Names) (n : ℕ) (read : Result Instr Why) (why : Option Why) (d : Declared) (t : Draft)
     → why ≡ None → why_of read ≡ None → is_full t.code ≡ None → outside t.progress.part ≡ None
     → ((i : Instr) → read ≡ Ok i → LegalInstr names i) → Told names d t

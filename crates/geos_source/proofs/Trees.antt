@@ -13,7 +13,7 @@ use Rattle.std.proofs.lemmas.Option.{slice_get_cases, slice_get_within}
 use Rattle.geos_source.specs.declared.names.TheConstants.{TREES}
 use Rattle.geos_source.specs.Tables.{value_at}
 
--- an item that is set stands at its place
+-- an item that is set is at its place
 slice_get-set_same : {A : Type 0} (xs : List A) (i : ℕ) (y : A) → i < length xs → slice_get (slice_set xs i y) i ≡ Some y
 slice_get-set_same [] i y lt = absurd (omega (arith, lt))
 slice_get-set_same (x ∷ xs) zero y lt = refl

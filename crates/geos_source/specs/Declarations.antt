@@ -54,7 +54,7 @@ with_routine_name line (Some name) d =
           first d.fault (at_line line (twice (d.names.routines name)));
     }
 
--- the name in front of the words behind `routine`
+-- the routine's name: the first word after `routine`
 abbrev pub name_in_front : List (List ℕ) → Option (List ℕ)
 name_in_front [] = None
 name_in_front (word ∷ words) = name_of word

@@ -17,7 +17,7 @@ abbrev pub named : Option (List ℕ) → Bool → List ℕ → Result Routine Wh
 named None public number = Err WrongOperands
 named (Some name) public number = with_budget name public (numbered 4294967295 number)
 
--- `budget N`, and nothing behind it
+-- `budget N`, and nothing after it
 abbrev pub budgeted : Option (List ℕ) → Bool → List (List ℕ) → Result Routine Why
 budgeted name public (word ∷ number ∷ []) = if bytes_eq word (codes "budget") then named name public number else Err WrongOperands
 budgeted name public _ = Err WrongOperands
@@ -27,7 +27,7 @@ abbrev pub published : Option (List ℕ) → List (List ℕ) → Result Routine 
 published name [] = Err WrongOperands
 published name (word ∷ words) = if bytes_eq word (codes "public") then budgeted name true words else budgeted name false (word ∷ words)
 
--- the words behind `routine`: a name, `public` or not, `budget` and a number
+-- the words after `routine`: a name, perhaps `public`, then `budget` and a number
 unfoldable pub header : List (List ℕ) → Result Routine Why
 header [] = Err WrongOperands
 header (word ∷ words) = published (name_of word) words

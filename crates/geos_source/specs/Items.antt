@@ -74,7 +74,7 @@ abbrev pub with_pointer : Row → ℕ → ℕ → Result ℕ Why → Result Row 
 with_pointer row p s (Ok least) = Ok (record row { pointers = slice_set row.pointers p (Some (record { slot = s; least = least })) })
 with_pointer row p s (Err why) = Err why
 
--- the least length behind the `:`, if there is one
+-- the row with the least length after the `:` of a pointer, if there is one
 abbrev pub pointer_least : Row → ℕ → ℕ → Option (List ℕ) → Result Row Why
 pointer_least row p s None = Err WrongOperands
 pointer_least row p s (Some digits) = with_pointer row p s (numbered 65535 digits)

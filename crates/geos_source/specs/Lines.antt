@@ -1,4 +1,4 @@
--- What a line says: its labels, and the words behind them.
+-- The parts of a line: its labels, and the words after them.
 use Rattle.std.specs.Prelude.{◌≡◌, ℕ, List, [], ◌∷◌, Option, Some, None, MatchOption}
 use Rattle.std.specs.Borrow.{Bor}
 use Rattle.geos_text.specs.Words.{words, without_comment}
@@ -8,12 +8,12 @@ use Rattle.geos_source.specs.Names.{label_of}
 abbrev pub said : List ℕ → List (List ℕ)
 said line = words (without_comment line)
 
--- the names of the labels in front, and the words behind them
+-- the names of the labels at the start of a line, and the words after them
 pub record Line : Type 0 where
   pub labels : List (List ℕ)
   pub statement : List (List ℕ)
 
--- a word in front of words that are parted: a label of theirs, or the first word of the statement
+-- a line with one more word at its start: another label, or the first word of the statement
 abbrev pub behind_label : Option (List ℕ) → List ℕ → List (List ℕ) → Line → Line
 behind_label None word words rest = record { labels = []; statement = word ∷ words }
 behind_label (Some name) word words rest = record { labels = name ∷ rest.labels; statement = rest.statement }
@@ -23,6 +23,7 @@ abbrev pub parted : List (List ℕ) → Line
 parted [] = record { labels = []; statement = [] }
 parted (word ∷ words) = behind_label (label_of word) word words (parted words)
 
--- a statement as it is read: its first word and the line behind it, or nothing where it has no word
+-- the reader returns the first word of the statement and the rest of the line, or nothing if the statement has no
+-- word
 abbrev pub IsStatement : List (List ℕ) → Option (Bor (List ℕ) × Bor (List ℕ)) → Type 0
 IsStatement statement read = MatchOption read (statement ≡ []) (λ r. statement ≡ r.0.now ∷ words r.1.now)

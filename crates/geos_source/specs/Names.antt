@@ -10,7 +10,7 @@ use Rattle.geos_source.specs.declared.fault.Why.TheVariants.{WrongOperands, Unde
 abbrev pub is_name : List ℕ → Bool
 is_name word = nat_le (length word) 16 && is_ascii_alphabetic (slice_index word 0) && list_all is_name_byte word
 
--- the name that a word writes, as an image has it: with zeros behind it up to 16 bytes
+-- the name that a word writes, as an image has it: filled with zeros up to 16 bytes
 unfoldable pub name_of : List ℕ → Option (List ℕ)
 name_of word = if is_name word then Some (word ++ replicate (16 - length word) 0) else None
 

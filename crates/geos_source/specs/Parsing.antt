@@ -9,7 +9,7 @@ use Rattle.geos_source.specs.Texts.{Code, code_of}
 abbrev pub code_in : answer.Parsed → Code
 code_in parsed = record { routines = parsed.routines.items; instrs = parsed.instrs.items }
 
--- why a text is not parsed: its first fault, or want of memory
+-- why a text is not parsed: its first fault, or lack of memory
 abbrev pub IsWhyNot : List ℕ → ParseError → Type 0
 IsWhyNot text (BadLine fault) = code_of text ≡ Err fault
 IsWhyNot text Memory = Unit {0}

@@ -18,11 +18,11 @@ first_in number (why ∷ whys) = first (at_line number why) (first_in (number + 
 unfoldable pub fault_in : Faults → Option BadLine
 fault_in faults = first (first_in 1 faults.lines.items) faults.rest
 
--- what is declared, behind faults that were noted
+-- the declarations, with the faults that were noted before
 abbrev pub noted : Option BadLine → Declared → Declared
 noted fault d = record { routines = d.routines; instrs = d.instrs; names = d.names; fault = first fault d.fault }
 
--- what is said, behind faults that were noted
+-- the draft, with the faults that were noted before
 abbrev pub told : Option BadLine → Draft → Draft
 told fault t =
     record {
@@ -32,6 +32,6 @@ told fault t =
           record { part = t.progress.part; current = t.progress.current; waiting = t.progress.waiting; fault = first fault t.progress.fault };
     }
 
--- what is said so far, with all faults that were noted
+-- the draft so far, with all faults that were noted
 abbrev pub told_in : Tally → Draft
 told_in tally = told (fault_in tally.faults) (draft_in tally.draft)

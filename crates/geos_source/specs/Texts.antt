@@ -20,14 +20,14 @@ use Rattle.geos_source.specs.Items.{row_of}
 use Rattle.geos_source.specs.Headers.{header}
 use Rattle.geos_source.specs.Declarations.{declared}
 
--- what the lines so far say: the routines that are complete and the instructions, as far as they
--- have no fault, and where the next line stands
+-- what the lines so far say: the complete routines, the instructions without faults, and the state in which the next
+-- line is read
 pub record Draft : Type 0 where
   pub routines : List TextRoutine
   pub code : List Instr
   pub progress : Progress
 
--- nothing is said
+-- the draft before the first line
 abbrev pub blank : Draft
 blank = record { routines = []; code = []; progress = record { part = Outside; current = None; waiting = None; fault = None } }
 
@@ -57,7 +57,7 @@ closed p =
     let dropped = drop_labels p in
     record { part = dropped.part; current = None; waiting = dropped.waiting; fault = first dropped.fault (unfilled dropped.part) }
 
--- the same of all that is said
+-- the same for the draft
 abbrev pub close : Draft → Draft
 close d = record { routines = with_current d.routines d.progress.current; code = d.code; progress = closed d.progress }
 
@@ -82,11 +82,11 @@ begun line read full p =
     let why = least (why_of read) full in
     record { part = Head line false false; current = begun_by line read why; waiting = p.waiting; fault = first p.fault (at_line line why) }
 
--- the same of all that is said
+-- the same for the draft
 abbrev pub begin : ℕ → Result Routine Why → Draft → Draft
 begin line read d = record { routines = d.routines; code = d.code; progress = begun line read (no_room d.routines) d.progress }
 
--- a line `in` may not stand here: it stands behind the line that begins a routine, once
+-- why a line `in` may not be here: it is allowed once, in the head of a routine
 abbrev pub misplaced_in : Part → Option Why
 misplaced_in Outside = Some OutOfPlace
 misplaced_in (Head line has_in has_out) = if has_in then Some OutOfPlace else None
@@ -144,7 +144,7 @@ take_out line read p =
           first p.fault (at_line line (least (why_of read) (misplaced_out p.part)));
     }
 
--- an instruction stands in no routine
+-- the fault of an instruction outside a routine
 abbrev pub outside : Part → Option Why
 outside Outside = Some OutOfPlace
 outside (Head line has_in has_out) = None
@@ -176,7 +176,7 @@ counted (Some why) (Some r) = Some r
 abbrev pub with_instr_at : ℕ → Option Why → Progress → Progress
 with_instr_at line why p = record { part = in_body p.part; current = counted why p.current; waiting = None; fault = first p.fault (at_line line why) }
 
--- the same of all that is said
+-- an instruction on a line of the draft
 abbrev pub take_instr : ℕ → Result Instr Why → Draft → Draft
 take_instr line read d =
     let why = least (why_of read) (least (is_full d.code) (outside d.progress.part)) in

@@ -16,8 +16,8 @@ declared_of d = record { routines = d.routines; instrs = d.instrs; names = names
 abbrev pub draft_in : reader.Draft → Draft
 draft_in d = record { routines = d.routines.items; code = d.code.items; progress = d.progress }
 
--- behind a line of this number, that has an instruction or not: if there is no fault so far, and a text may have so many lines, the numbers
--- of the instructions' lines are those from before, and this one where it has one
+-- after line `number`, which has an instruction or not: the list of instructions' lines has got this number exactly
+-- if the line has one. This holds if there is no fault so far, and a text may have so many lines.
 abbrev pub NumbersLine : ℕ → Bool → reader.Draft → reader.Draft → Type 0
 NumbersLine number has old new =
     number ≤ most_bytes → new.progress.fault ≡ None → new.lines.items ≡ with_number_if has number old.lines.items

@@ -61,10 +61,9 @@ fn key_of(name: Name) -> u128
 /// by adding up its halves, with no long division.
 const TREES: u128 = 641;
 
-/// What names stand for, by their keys, which are numbers and compared at once. A name is in the tree
-/// whose number is the remainder of its key by `TREES`: each tree has a handful of names. Where a
-/// text's author chooses names that all go to one tree, that tree is balanced, and a look-up takes no
-/// longer than it would in one tree for all names.
+/// What names stand for, by their keys, which are numbers and so compared at once. A name is in the tree whose number
+/// is the remainder of its key by `TREES`, so each tree has a handful of names. An author may choose names that all
+/// belong to one tree. This tree is balanced, so a look-up then takes no longer than in a single tree of all names.
 #[derive(Drop)]
 pub(crate) struct Table {
     trees: Vec<BTreeMap<u128, u16>>,

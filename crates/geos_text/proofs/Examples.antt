@@ -26,7 +26,7 @@ pub record Words : Type 0 where
 words_computed : Words
 words_computed = record { parted = refl; blank = refl; comment = refl; remark = refl }
 
--- numbers are digits alone, and fit their range
+-- numbers have only digits, and are within their range
 pub record Numbers : Type 0 where
   pub zeros : number_of (codes "0007") ≡ Some 7
   pub greatest : number_of (codes "65535") ≡ Some 65535

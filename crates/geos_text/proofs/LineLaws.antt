@@ -26,7 +26,7 @@ first_byte_or_else p xs (Some k) found =
     let first = found.0 in
     sym (position_or_len_is p xs k 0 (omega (arith, first.high)) (λ j lt. false_from_ne_true _ (first.before j (omega arith) lt)) (λ lt. found.1))
 
--- a part with others behind it loses its carriage return
+-- a part that others follow loses its carriage return
 parts-first : (line : List ℕ) (parts : List (List ℕ)) → 0 < length parts
     → lines_of_parts (line ∷ parts) ≡ strip_carriage_return line ∷ lines_of_parts parts
 parts-first line [] some = absurd (omega (arith, some))

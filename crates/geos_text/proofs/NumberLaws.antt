@@ -8,12 +8,12 @@ use Rattle.geos_text.specs.declared.numbers.NumberError.{NumberError}
 use Rattle.geos_text.specs.declared.numbers.NumberError.TheVariants.{Malformed, TooLarge}
 use Rattle.geos_text.specs.Numbers.{if_within}
 
--- the number up to the greatest one, where n was read in front of the digits
+-- the number up to the greatest one, if n was read before the digits
 abbrev pub number_after : ℕ → ℕ → List ℕ → Result ℕ NumberError
 number_after greatest n digits =
     if list_all is_ascii_digit digits then if_within greatest (digits_value_after 10 n digits) else Err Malformed
 
--- the digits behind a number do not make it less
+-- further digits never make a number less
 value-grows : (n : ℕ) (digits : List ℕ) → n ≤ digits_value_after 10 n digits
 value-grows n [] = omega arith
 value-grows n (d ∷ digits) = omega (arith, value-grows (n * 10 + digit_value d) digits)

@@ -4,7 +4,7 @@ use Rattle.std.specs.Prelude.{flat_map, ◌==◌}
 use Rattle.std.proofs.lemmas.Bool.{ne_eqb}
 use Rattle.std.proofs.lemmas.List.{take_more, flat_map_more, length-append, append-nil}
 
--- what is said of one more element of a list was written
+-- the text of one more element of a list was written
 pub flat_map-step : {X : Type 0} (start middle after piece : List ℕ) (f : X → List ℕ) (xs : List X) (k : ℕ) (d : X) → k < length xs
     → middle ≡ start ++ flat_map f (take k xs) → after ≡ middle ++ piece → piece ≡ f (get_or xs k d) → after ≡ start ++ flat_map f (take (k + 1) xs)
 flat_map-step start middle after piece f xs k d lt so_far written is =

@@ -20,7 +20,7 @@ trimmed-cons b line false e rest =
     let same : drop (position_or_len (λ c. not (is_blank c)) (b ∷ line)) (b ∷ line) ≡ b ∷ line = rw e refl in
     ap words same
 
--- blanks in front of a line say nothing
+-- blanks at the start of a line add no word
 pub words-trimmed : (line : List ℕ) → words (drop (position_or_len (λ b. not (is_blank b)) line) line) ≡ words line
 words-trimmed [] = refl
 words-trimmed (b ∷ line) = trimmed-cons b line (is_blank b) refl (words-trimmed line)
@@ -38,7 +38,7 @@ starts-cons b line false e rest = λ some.
     let first : position_or_len is_blank (b ∷ line) ≡ 1 + position_or_len is_blank line = rw e refl in
     rw same (omega (arith, first))
 
--- behind the blanks there is a word, or nothing
+-- after the blanks there is a word, or nothing
 pub trimmed-starts : (line : List ℕ) → 0 < length (drop (position_or_len (λ b. not (is_blank b)) line) line)
     → 0 < position_or_len is_blank (drop (position_or_len (λ b. not (is_blank b)) line) line)
 trimmed-starts [] = λ some. absurd (omega (arith, some))
@@ -72,7 +72,7 @@ first-whole line some end =
     ∙ words-part line [] (rw (sym end) some) in
     rw (end, take_all (length line) line (omega arith), drop_all (length line) line (omega arith)) one
 
--- the first word, and those behind it
+-- the first word, and those after it
 pub words-first : (line : List ℕ) → 0 < position_or_len is_blank line
     → words line ≡ take (position_or_len is_blank line) line ∷ words (drop (position_or_len is_blank line) line)
 words-first line some = elim (eq-or-lt_of_le (prefix_len-le-length (λ b. not (is_blank b)) line))

@@ -8,7 +8,7 @@ use Rattle.geos_text.specs.declared.numbers.NumberError.{NumberError}
 use Rattle.geos_text.specs.declared.numbers.NumberError.TheVariants.{Malformed, TooLarge}
 use Rattle.geos_text.specs.Words.{is_empty}
 
--- decimal digits alone, and at least one
+-- only decimal digits, and at least one
 abbrev pub is_number : List ℕ → Bool
 is_number word = not (is_empty word) && list_all is_ascii_digit word
 

@@ -3,7 +3,7 @@ use Rattle.std.specs.Prelude.{ℕ, List, ◌++◌, flat_map, decimal}
 use Rattle.geos_text.specs.declared.parts.Part.{Part}
 use Rattle.geos_text.specs.declared.parts.Part.TheVariants.{Text, Bytes, Numbered}
 
--- a part of a text: a text, bytes, or a number in decimal digits behind a text
+-- a part of a text: a text, bytes, or a text followed by a number in decimal digits
 abbrev pub part_text : Part → List ℕ
 part_text (Text text) = text.now
 part_text (Bytes bytes) = bytes.now

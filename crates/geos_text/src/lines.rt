@@ -9,7 +9,7 @@ use memchr::memchr;
 /// The most bytes of a text, a script or a session.
 pub const MOST_BYTES: usize = 1_048_576;
 
-/// Where the byte first stands in the text, or else the text's length.
+/// The position of the first such byte in the text, or the text's length if there is none.
 pub(crate) fn place_of(byte: u8, text: &[u8]) -> usize
     ensures place { result ≡ position_or_len (λ b. b == byte) text.now }
     ensures within { result ≤ length text.now }

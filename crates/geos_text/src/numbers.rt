@@ -6,7 +6,7 @@ ghost use Rattle.geos_text.specs.Numbers.{number_up_to, number_of};
 /// Why a word is no number of a range.
 #[derive(Clone, Copy, Debug, PartialEq, Eq)]
 pub enum NumberError {
-    /// It is not made of decimal digits alone.
+    /// A character is not a decimal digit, or there is no digit.
     Malformed,
     /// It is a number, but a greater one.
     TooLarge,

@@ -20,7 +20,7 @@ pub fn is_blank(byte: u8) -> bool
     byte == b' ' || byte == b'\t'
 }
 
-/// How many blanks stand before the first word.
+/// The number of blanks before the first word.
 fn blanks_in_front(line: &[u8]) -> usize
     ensures place { result ≡ position_or_len (λ b. not (is_blank b)) line.now }
     ensures within { result ≤ length line.now }
@@ -30,7 +30,7 @@ fn blanks_in_front(line: &[u8]) -> usize
         .unwrap_or(line.len())
 }
 
-/// Where the first blank stands in the line, or else the line's length.
+/// The position of the first blank in the line, or the line's length if there is none.
 fn end_of_word(line: &[u8]) -> usize
     ensures place { result ≡ position_or_len is_blank line.now }
     ensures within { result ≤ length line.now }

@@ -86,7 +86,7 @@ times-le : (c a b : ℕ) → a ≤ b → c * a ≤ c * b
 times-le zero a b h = omega arith
 times-le (suc c) a b h = let ih = times-le c a b h in omega (arith, ih, h)
 
--- what pays behind the weaker row pays behind the stronger
+-- an edge that is paid for with the weaker row before it is also paid for with the stronger row
 pays-same : (image : Parts) (i : Instr) (opcode : Opcode) (R W : Row) (p q : Potential) → fits R W ≡ true
     → pays_along image i opcode W p q ≡ true → pays_along (keyed_of image) i opcode R p q ≡ true
 pays-same image i Call R W p q f h = subst (λ (ts : List Bool). (is_paid (asked_along image i Call W q) p && are_spent ts q) ≡ true)

@@ -35,7 +35,7 @@ use Rattle.geos_verify.proofs.Passing.{neither}
 abbrev Held : List SlotState → List (Option Pointer) → Type 0
 Held slots pointers = list_any (leads_nowhere slots) pointers ≡ false
 
--- slots that stay held
+-- slots that are not empty stay so
 abbrev StayHeld : List SlotState → List SlotState → Type 0
 StayHeld old new = (k : ℕ) → is_empty (get_or old k Empty) ≡ false → is_empty (get_or new k Empty) ≡ false
 
@@ -148,7 +148,7 @@ with-held i Sets slots pointers sets h = set-held slots pointers i.b (Some (reco
 with-held i Duplicates slots pointers sets h = set-held slots pointers i.a (get_or pointers i.b None) (get-held slots pointers i.b h) h
 with-held i _ slots pointers sets h = h
 
--- a pointer is set into a slot that is held, or that is locked into
+-- a pointer is set into a slot that is not empty, or into which the instruction locks a block
 sets-held : (opcode : Opcode) (i : Instr) (slots : List SlotState) → FieldsFit opcode i → length slots ≡ 4
     → (uses_of opcode).pointer ≡ Sets → ((uses_of opcode).slot ≡ LooksAt → is_empty (get_or slots i.a Empty) ≡ false)
     → is_empty (get_or (slots_after i (uses_of opcode).slot slots) i.a Empty) ≡ false
@@ -189,7 +189,7 @@ slots-four i (Unlocks kind) slots = length-set slots i.a Empty
 slots-four i (Marks kind) slots = length-set slots i.a (marked_state (get_or slots i.a Empty))
 slots-four i _ slots = refl
 
--- a row that is so, with its four slots
+-- a row with four slots and without pointers into empty slots
 pub record IsClean (row : Row) : Type 0 where
   pub clean : names_empty_slot row ≡ false
   pub four : length row.slots ≡ 4
@@ -232,7 +232,7 @@ beside-calls-clean image i opcode row is fields goes_on h held =
     called : opcode ≡ op.Call → calls opcode ≡ false → ⊥
     called same e = (let at_call : calls op.Call ≡ false = rw same at e in absurd cc)
 
--- after a call as well, where exit rows are so
+-- the row is clean after a call as well, if exit rows are clean
 pub along-clean : (image : Parts) (i : Instr) (opcode : Opcode) (row : Row) → i.opcode ≡ opcode → FieldsFit opcode i
     → ((routine : Routine) → slice_get image.routines i.imm ≡ Some routine → IsClean routine.exit) → IsClean row → wrong_slot i row ≡ false
     → IsClean (row_along image i opcode row)

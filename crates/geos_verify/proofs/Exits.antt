@@ -72,7 +72,7 @@ ends-so Jmp e = inl refl
 ends-so _ e = absurd cc
 
 module _ (image : Parts) (checked : IsAcceptable image) (r : ℕ) (routine : Routine) where
-  -- at a place that does not return, control goes on where fewer steps are left
+  -- from a place that does not return, an edge leads to a place with a lower constant
   abbrev GoesOn : Place → Type 0
   GoesOn p = (returns p.instr.opcode ≡ true) ⊎ ((to : ℕ) × (q : Place) × HasPoint image r routine to q
       × (q.potential.constant + 1 ≤ p.potential.constant))

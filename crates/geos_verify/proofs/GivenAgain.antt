@@ -1,4 +1,4 @@
--- Rows that are given again at the next place, and instructions that change bounds alone.
+-- Rows that are repeated at the next pc, and instructions that change only bounds.
 use Rattle.std.proofs.Common.{◌≡◌, ℕ, zero, suc, ◌+◌, ◌<◌, Bool, true, false, List, [], ◌∷◌, length, Option, Some, None, slice_get, refl, sym, ap, subst, ◌∙◌, arith}
 use Rattle.std.specs.Prelude.{◌&&◌, not, nat_le, slice_index, slice_set, IfSome}
 use Rattle.std.specs.Option.{is_some}
@@ -27,14 +27,14 @@ use Rattle.geos_verify.proofs.Pairwise.{all2-refl}
 use Rattle.geos_verify.proofs.Places.{item_at, if_some, place-at}
 use Rattle.geos_verify.proofs.RowsFit.{fitting, fits-refl, le-refl}
 
--- bounds of which one is n are within the bounds just where n is within that one
+-- bounds with one of them set to n imply the bounds exactly if n is at most the old bound
 one-changed : (bounds : List ℕ) (a n : ℕ) → a < length bounds → all2 nat_le (slice_set bounds a n) bounds ≡ nat_le n (slice_index bounds a)
 one-changed [] a n lt = absurd (omega (arith, lt))
 one-changed (b ∷ bounds) zero n lt = ap (λ (rest : Bool). nat_le n b && rest) (all2-refl nat_le le-refl bounds) ∙ and-true (nat_le n b)
 one-changed (b ∷ bounds) (suc a) n lt = ap (λ (first : Bool). first && all2 nat_le (slice_set bounds a n) bounds) (le-refl b)
     ∙ one-changed bounds a n (omega (arith, lt))
 
--- a row with the bound of one word is enough for the row just where the word is bounded as well there
+-- a row with the bound of one word set to n implies the row exactly if n is at most the old bound
 pub fits_bound : (row : Row) (a n : ℕ) → a < length row.bounds → fits (with_bound a n row) row ≡ nat_le n (bound row a)
 fits_bound row a n lt =
     let self = fitting row row (fits-refl row) in
@@ -54,7 +54,7 @@ known-once image pc row other lt at too =
     sym (if_some (λ (p : Place). p.row ≡ row) (slice_get (places image) pc) place.0 place.1 at)
     ∙ if_some (λ (p : Place). p.row ≡ other) (slice_get (places image) pc) place.0 place.1 too
 
--- where the place behind the pc is given the row that the pc is given, what is known at the pc is known there
+-- if the next pc has the same row as this pc, the row that is known at this pc is known there too
 pub known-again : (image : Parts) (pc : ℕ) (row : Row) → pc + 1 < length image.points → IsRepeated image.points pc → RowAt image pc row
     → RowAt image (pc + 1) row
 known-again image pc row lt again known =
@@ -77,7 +77,7 @@ used-alone : (i : Instr) (uses : Uses) (row : Row) → uses.slot ≡ NoSlot
     → ((i : Instr) (pointers : List (Option Pointer)) → with_pointer i uses.pointer pointers ≡ pointers) → used i uses row ≡ row
 used-alone i uses row slot keeps = rw (slot, keeps i row.pointers) refl
 
--- an instruction that uses no slot, sets no pointer and calls nothing changes bounds alone
+-- an instruction that uses no slot, sets no pointer and calls nothing changes only bounds
 pub bounds-alone : (image : Parts) (i : Instr) (opcode : Opcode) (uses : Uses) (row : Row) → uses ≡ uses_of opcode → uses.slot ≡ NoSlot
     → ((i : Instr) (pointers : List (Option Pointer)) → with_pointer i uses.pointer pointers ≡ pointers) → (called : Bool) → called ≡ false
     → called ≡ calls opcode → row_along image i opcode row ≡ bounded i opcode row
@@ -88,7 +88,8 @@ bounds-alone image i opcode uses row is slot keeps called not_called called_is =
     other : opcode ≡ Call → ⊥
     other e = false≢true (sym not_called ∙ (called_is ∙ ap calls e))
 
--- there the row that control goes on with fits just where it is enough for the row before it
+-- if the next pc repeats the row, the edge to it misfits exactly if the row on the edge does not imply the row of
+-- this pc
 pub fitted-again : (image : Parts) (pc : ℕ) (row next bounds : Row) → pc + 1 < length image.points → IsRepeated image.points pc
     → RowAt image pc row → next ≡ bounds → not (fits bounds row) ≡ misfits_at image (pc + 1) next
 unfolding misfits_at

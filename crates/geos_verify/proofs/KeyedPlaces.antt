@@ -44,7 +44,7 @@ module _ (image : Parts) (legal : is_formed true image ≡ true) (all : image.ke
       at.1 ∙ ap (λ (q : Place). Some q) (place-is p at.0.instr at.0.row at.0.potential (at.2.instr ∙ sym found.2.instr)
       (sym row_is) (at.2.potential ∙ sym found.2.potential))
 
-  -- and else it has the row that goes on from the place before
+  -- otherwise the place has the row after the previous instruction
   pub bare-next : (q : ℕ) (before p : Place) → slice_get (places (keyed_of image)) q ≡ Some before
       → slice_get (places image) (suc q) ≡ Some p → gives (keyed_of image) (suc q) ≡ false
       → slice_get (places (keyed_of image)) (suc q) ≡ Some (record p { row = row_along image before.instr before.instr.opcode before.row })
@@ -82,7 +82,7 @@ module _ (image : Parts) (legal : is_formed true image ≡ true) (all : image.ke
         same = λ yes. absurd (false≢true (sym bare ∙ yes));
       }
 
-  -- what goes on from a place fits what is known behind it
+  -- the row after an instruction implies the row that is known at the next pc
   pub along-fits : (pc : ℕ) (p q : Place) (K : KnownAs pc p) (N : KnownAs (suc pc) q) → slice_get (places image) (suc pc) ≡ Some q
       → fits (row_along image p.instr p.instr.opcode p.row) q.row ≡ true
       → fits (row_along image p.instr p.instr.opcode K.row) N.row ≡ true

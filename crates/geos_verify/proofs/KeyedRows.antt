@@ -65,7 +65,7 @@ module _ (image : Parts) (checked : IsAcceptable image) (all : image.keyed ≡ f
       let found = point-of image pc p read in
       subst (λ (i : Instr). FieldsFit i.opcode i) (sym found.2.instr) ((formed_fits true image pc found.0 checked.0 found.1).0)
 
-  -- what goes on from an accepted place fits what is known behind it
+  -- the row after an accepted instruction implies the row that is known at the next pc
   fits-along : (pc : ℕ) (p q : Place) → HasPoint image r routine pc p → falls_through p.instr.opcode ≡ true
       → slice_get (places image) (suc pc) ≡ Some q → fits (row_along image p.instr p.instr.opcode p.row) q.row ≡ true
   fits-along pc p q has falls read =

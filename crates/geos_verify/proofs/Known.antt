@@ -39,7 +39,7 @@ next-row image pc i row next here known lt there =
     sym (ap (slice_get (places image)) plus) ∙ step ∙ ap (λ (j : Instr). Some (place_of next (row_along image j j.opcode at.0.row))) (sym i_is)
     ∙ ap (λ (r : Row). Some (place_of next (row_along image i i.opcode r))) row_is
 
--- the row that control goes on with fits what is known there where no row is given
+-- if the next pc has no row, the row after the instruction implies the row that is known there
 pub goes-on-fits : (image : Parts) (pc : ℕ) (i : Instr) (row : Row) (given : Option Row)
     → IfSome (slice_get image.points pc) (λ point. i ≡ point.instr) → RowAt image pc row → pc + 1 < length image.points
     → IfSome (slice_get image.points (pc + 1)) (λ point. given ≡ point.row) → given ≡ None
@@ -98,7 +98,7 @@ row-after image pc row known lt next =
     row-at image (pc + 1) (place_of found.0 (row_along image i i.opcode row)) (after image pc row false) at
     (ap (λ (o : Option Row). or_row o (row_along image i i.opcode row)) row_is ∙ sym after_is)
 
--- what is known at the next place: the row that is given there, or else what was computed
+-- the row that is known at the next pc: its given row, or otherwise the computed one
 pub row-chosen : (image : Parts) (pc : ℕ) (row : Row) (given : Option Row) (computed : Row) → RowAt image pc row → pc + 1 < length image.points
     → IfSome (slice_get image.points (pc + 1)) (λ point. given ≡ point.row) → (given ≡ None → computed ≡ after image pc row false)
     → RowAt image (pc + 1) (or_row given computed)
@@ -110,7 +110,7 @@ or-gives : (b : Bool) → (b ≡ false → ⊥) → b ≡ true
 or-gives true h = refl
 or-gives false h = absurd (h refl)
 
--- where no row is given behind an instruction, control goes on there
+-- if the pc after an instruction has no row, the instruction falls through to it
 pub goes-on : (image : Parts) → is_image image ≡ true → (pc : ℕ) (given : Option Row) → pc + 1 < length image.points
     → IfSome (slice_get image.points (pc + 1)) (λ point. given ≡ point.row) → given ≡ None → HasEdge image pc false
 goes-on image legal pc given lt next none =
@@ -153,7 +153,7 @@ by-parts image pc i row potential P here known paid lt h =
     ∙ sym at.2.potential in
     subst (λ (o : Option Place). IfSome o P) (sym at.1) (subst P (place-is at.0 i row potential i_is row_is potential_is) h)
 
--- one more place behind those before it
+-- the list of the first places, with one more at its end
 pub places-more : (image : Parts) (pc : ℕ) (place : Place) → IfSome (slice_get (places image) pc) (λ p. place ≡ p)
     → pc < length image.points → take pc (places image) ++ place ∷ [] ≡ take (pc + 1) (places image)
 places-more image pc place here lt =

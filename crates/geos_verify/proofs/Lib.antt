@@ -19,3 +19,4 @@ pub mod KeyedPlaces
 pub mod KeyedRows
 pub mod AcceptedToo
 pub mod GivenAgain
+pub mod Paid

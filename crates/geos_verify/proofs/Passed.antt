@@ -1,4 +1,4 @@
--- Where no rule refuses a point, each one's test is false.
+-- If no rule refuses a point, the test of each rule is false.
 use Rattle.std.proofs.Common.{◌≡◌, ◌<◌, ℕ, Bool, true, false, None, Some, List, [], ◌∷◌, length, slice_get, refl, sym, subst}
 use Rattle.std.specs.Prelude.{IfSome}
 use Rattle.geos_terms.specs.Refusals.{first_refusal}

@@ -192,8 +192,7 @@ module _ (i : Instr) (r s : Row) (h : fits r s ≡ true) where
       let fit = not-false (fits s routine.exit) (second-false (returns i.opcode) (not (fits s routine.exit)) e is) in
       true-not (fits r routine.exit) (fits-trans r s routine.exit h fit))
 
--- the instruction of routine index may stand where the row is known: no rule on pointers, slots,
--- calls and returns refuses
+-- no rule on pointers, slots, calls and returns refuses the instruction of a routine with this row
 pub record MayStand (image : Parts) (index : ℕ) (routine : Routine) (i : Instr) (row : Row) : Type 0 where
   pub fresh : stale_pointer i row ≡ false
   pub within : passes_end i row ≡ false

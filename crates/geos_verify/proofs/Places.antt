@@ -1,4 +1,4 @@
--- Where the routines of an image lie: one behind the other, so that each pc is in one of them.
+-- The routines of an image lie one after another, so each pc is in one of them.
 use Rattle.std.proofs.Common.{◌≡◌, ◌<◌, ◌≤◌, ◌+◌, ℕ, zero, suc, true, List, [], ◌∷◌, Option, Some, None, length, slice_get, refl, sym, ap, subst, ◌∙◌, arith, inl, inr, ◌⊎◌}
 use Rattle.std.specs.Prelude.{nat_lt, nat_le, IfSome}
 use Rattle.std.proofs.lemmas.Bool.{and_parts, ltb-true, leb-true, lt-ltb, le-leb, cases_lt}
@@ -136,7 +136,7 @@ from-next image before (x ∷ y ∷ points) zero place next e f =
 from-next image before (x ∷ points) (suc pc) place next e f = from-next image (row_along image x.instr x.instr.opcode (or_row x.row before))
     points pc place next e f
 
--- where no row is given, it is what is known behind the instruction before
+-- a place without a row of its own has the row after the previous instruction
 pub place-next : (image : Parts) (pc : ℕ) (place : Place) (next : Point) → slice_get (places image) pc ≡ Some place
     → slice_get image.points (suc pc) ≡ Some next
     → slice_get (places image) (suc pc) ≡ Some (place_of next (row_along image place.instr place.instr.opcode place.row))

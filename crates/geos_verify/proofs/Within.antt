@@ -1,4 +1,4 @@
--- An instruction whose edges stay in its routine goes on within the image.
+-- If the edges of an instruction stay in its routine, they stay within the image.
 use Rattle.std.proofs.Common.{◌≡◌, ◌+◌, ◌<◌, ◌≤◌, ℕ, true, length, refl, arith}
 use Rattle.geos_opcodes.specs.declared.opcode.Operand.{Operand}
 use Rattle.geos_opcodes.specs.declared.opcode.Operand.TheVariants.{Label}

@@ -9,3 +9,4 @@ pub mod RuleText
 pub mod Rules
 pub mod Refused
 pub mod Kept
+pub mod Entry

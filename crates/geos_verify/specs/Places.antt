@@ -1,5 +1,5 @@
--- What is known at each place of an image: the row that it gives there, or else what is known behind the
--- instruction before.
+-- What is known at each pc of an image: the row that the image gives there, or otherwise the row after the previous
+-- instruction.
 use Rattle.std.specs.Prelude.{◌≡◌, ℕ, Bool, true, List, [], ◌∷◌, Option, Some, None, IfSome, slice_get}
 use Rattle.geos_image.specs.declared.row.Row.{Row}
 use Rattle.geos_image.specs.declared.point.Point.{Point}
@@ -8,7 +8,7 @@ use Rattle.geos_image.specs.Open.{open_row}
 use Rattle.geos_image.specs.Parts.{Parts}
 use Rattle.geos_verify.specs.Rows.{row_along}
 
--- the row that is given, or else another
+-- the given row, or the other row if none is given
 abbrev pub or_row : Option Row → Row → Row
 or_row None other = other
 or_row (Some row) other = row
@@ -27,7 +27,7 @@ places_from image before (point ∷ points) =
 abbrev pub places : Parts → List Place
 places image = places_from image open_row image.points
 
--- what holds of the place at a pc; of no place, nothing is asked
+-- the place at a pc passes the test; true if there is no such place
 abbrev pub at_place : Parts → ℕ → (Place → Bool) → Bool
 at_place image pc test = elim (slice_get (places image) pc) [ None ↦ true | Some place ↦ test place ]
 

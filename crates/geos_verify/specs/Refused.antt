@@ -11,7 +11,7 @@ use Rattle.geos_verify.specs.Touched.{noted, touches_within}
 abbrev pub KnowsTouchedWithin : Parts → List (List Bool) → ℕ → Type 0
 KnowsTouchedWithin image table depth = (c k : ℕ) → k < 4 → noted table k c ≡ touches_within depth image k c
 
--- for each pc the lowest rule that refuses there, if one does; there is none behind the end of the list
+-- the list has, for each pc of the image, the lowest rule that refuses there, or None if no rule does
 abbrev pub AreRefusals : Parts → List (Option Rule) → Type 0
 AreRefusals image rules = (r pc : ℕ) (routine : Routine) (place : Place) → HasPoint image r routine pc place
     → slice_index_or rules pc None ≡ refusal image r routine (start_of image.routines r) pc place

@@ -28,7 +28,7 @@ use Rattle.geos_verify.specs.Uses.{same_kind}
 
 -- Edges
 
--- what holds of the point at a pc; of no point, nothing is asked
+-- the point at a pc passes the test; true if there is no such point
 abbrev pub at_point : Parts → ℕ → (Point → Bool) → Bool
 at_point image pc test = elim (slice_get image.points pc) [ None ↦ true | Some point ↦ test point ]
 
@@ -37,8 +37,8 @@ abbrev pub has_edge : Instr → Bool → Bool
 has_edge i true = branches i.opcode
 has_edge i false = falls_through i.opcode
 
--- the instruction at a pc, if there is one, has the edge: to its target, or else to the next
--- instruction
+-- the instruction at a pc, if there is one, has an edge to its target (if `branch`) or to the next instruction
+-- (otherwise)
 abbrev pub HasEdge : Parts → ℕ → Bool → Type 0
 HasEdge image pc branch = at_point image pc (λ point. if branch then branches point.instr.opcode else falls_through point.instr.opcode) ≡ true
 
@@ -82,7 +82,7 @@ with_result i opcode WordInA row = with_bound i.a 65535 row
 with_result i opcode WordInB row = with_bound i.b 65535 row
 with_result i opcode WordInAAndB row = with_bound i.b 65535 (with_bound i.a 65535 row)
 
--- the same where it goes on to the next instruction
+-- the same on the edge to the next instruction
 abbrev pub bounded : Instr → Opcode → Row → Row
 bounded i opcode row = with_result i opcode (facts opcode).yields row
 
@@ -121,20 +121,19 @@ are_alike state other = alike (kind_in state) (kind_in other)
 abbrev pub holds_kind : Kind → SlotState → Bool
 holds_kind kind state = alike (kind_in state) (Some kind)
 
--- a slot into which a block of the kind was locked, which is known to be marked or is not
+-- a slot into which a block of the kind was locked, with its mark if blocks of this kind have one
 abbrev pub held_state : Kind → Bool → SlotState
 held_state MemBlock marked = Mem
 held_state VmBlock marked = Vm marked false
 held_state DbGroup marked = Db marked
 
--- the same of a block that was marked: one of the VM file has a mark, which is then known
+-- a slot whose block was marked, if blocks of its kind have a mark
 abbrev pub marked_state : SlotState → SlotState
 marked_state (Vm marked borrowed) = Vm true borrowed
 marked_state (Db marked) = Db true
 marked_state state = state
 
--- the slots after an instruction: of a block that was just made it is known that it is marked, where it
--- has a mark
+-- the slots after an instruction; a new block is known to be marked if its kind can be marked
 abbrev pub slots_after : Instr → SlotUse → List SlotState → List SlotState
 slots_after i (LocksNew kind) slots = slice_set slots i.a (held_state kind true)
 slots_after i (Locks kind) slots = slice_set slots i.a (held_state kind false)
@@ -170,9 +169,9 @@ abbrev pub stale_where : (ℕ → Bool) → Option Pointer → Option Pointer
 stale_where test None = None
 stale_where test (Some p) = if test p.slot then None else Some p
 
--- the pointers that an instruction does not make stale: one that changes chunks moves those of
--- each slot that may hold the block, and where it names a group by its handle, those of each slot
--- that holds a group; an unlock lets those of its slot go
+-- the pointers after an instruction, before it sets one. A change of chunks makes pointers stale into each slot that
+-- may hold the block. A change of a group that a handle names makes pointers stale into each slot with a group. An
+-- unlock makes pointers stale into its slot.
 abbrev pub pointers_kept : Instr → SlotUse → Row → List (Option Pointer)
 pointers_kept i Moves row = map (stale_where (may_be_same row i.a)) row.pointers
 pointers_kept i (Unlocks kind) row = map (stale_where (λ b. b == i.a)) row.pointers
@@ -210,8 +209,7 @@ refused i slot row = record row { bounds = slice_set row.bounds 7 15; pointers =
 abbrev pub exit_row : Parts → ℕ → Row → Row
 exit_row image r row = elim (slice_get image.routines r) [ None ↦ row | Some routine ↦ routine.exit ]
 
--- the row where control goes on to the next instruction; after a call it is the exit row of the
--- routine that was called
+-- the row on the edge to the next instruction; after a call it is the exit row of the called routine
 abbrev pub row_along : Parts → Instr → Opcode → Row → Row
 row_along image i Call row = exit_row image i.imm row
 row_along image i opcode row = used i (uses_of opcode) (bounded i opcode row)
@@ -221,7 +219,8 @@ abbrev pub uses_no_slot : SlotUse → Bool
 uses_no_slot NoSlot = true
 uses_no_slot _ = false
 
--- only bounds change where control goes on: the instruction uses no slot, sets no pointer and calls nothing
+-- on the edge to the next instruction only bounds change: the instruction uses no slot, sets no pointer and calls
+-- nothing
 abbrev pub changes_bounds_alone : Opcode → Bool
 changes_bounds_alone opcode = uses_no_slot (uses_of opcode).slot && not (sets_pointer (uses_of opcode).pointer) && not (calls opcode)
 
@@ -238,11 +237,11 @@ after image pc row branch = elim (slice_get image.points pc) [
 
 -- Fits
 
--- a mark that is wanted is known
+-- if the mark is required, it is known
 abbrev pub mark_fits : Bool → Bool → Bool
 mark_fits marked wanted = marked || not wanted
 
--- both are so, or neither
+-- both flags are true, or both are false
 abbrev pub same_flag : Bool → Bool → Bool
 same_flag true wanted = wanted
 same_flag false wanted = not wanted
@@ -255,14 +254,13 @@ slot_fits (Vm marked borrowed) (Vm wanted lent) = mark_fits marked wanted && sam
 slot_fits (Db marked) (Db wanted) = mark_fits marked wanted
 slot_fits _ _ = false
 
--- nothing is wanted, or the pointer leads into the wanted slot, with at least the wanted
--- length
+-- no pointer is required, or the pointer leads into the required slot, with at least the required length
 abbrev pub pointer_fits : Option Pointer → Option Pointer → Bool
 pointer_fits p None = true
 pointer_fits None (Some q) = false
 pointer_fits (Some p) (Some q) = p.slot == q.slot && nat_le q.least p.least
 
--- a pair that is wanted is known
+-- if the pair is required, it is known
 abbrev pub pair_fits : Bool → Bool → Bool
 pair_fits known wanted = known || not wanted
 
@@ -276,7 +274,7 @@ fits r s =
 
 -- Rows that a caller from outside can meet
 
--- nothing is held
+-- the slot is empty
 abbrev pub is_empty : SlotState → Bool
 is_empty Empty = true
 is_empty _ = false
@@ -296,8 +294,8 @@ may_be_given _ = false
 abbrev pub may_be_one : List SlotState → Bool → ℕ × ℕ → Bool
 may_be_one slots known pair = not known || is_empty (slice_index_or slots pair.0 Empty) || is_empty (slice_index_or slots pair.1 Empty)
 
--- a row that each caller from outside can meet: no block is held but borrowed ones, which may all be one, and each pointer is
--- stale
+-- a row that each caller from outside can meet: each slot is empty or borrowed, all borrowed slots may have the same
+-- block, and each pointer is stale
 abbrev pub may_enter : Row → Bool
 may_enter row = list_all may_be_given row.slots && list_all is_stale row.pointers && all2 (may_be_one row.slots) row.pairs slot_pairs
 

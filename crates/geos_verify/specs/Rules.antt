@@ -74,14 +74,13 @@ uses_stale i _ row = false
 unfoldable pub stale_pointer : Instr → Row → Bool
 stale_pointer i row = uses_stale i (uses_of i.opcode).pointer row
 
--- how many bytes must stand behind a pointer, for a read or a write; nothing is asked where the
--- offset is tested when it runs
+-- how many bytes a read or a write requires at its pointer; none if the offset is tested at run time
 abbrev pub reach : Instr → Width → Offset → Row → ℕ
 reach i width Fixed row = i.imm + bytes_in width
 reach i width Indexed row = bound row i.c + bytes_in width
 reach i width Tested row = 0
 
--- how many bytes the row says that there are behind a pointer, at least
+-- how many bytes, at least, the row guarantees at a pointer
 abbrev pub least_at : Row → ℕ → ℕ
 least_at row p = elim (pointer_at row p) [ None ↦ 0 | Some q ↦ q.least ]
 
@@ -121,7 +120,7 @@ moves_unmarked i _ row = false
 unfoldable pub changes_unmarked : Instr → Row → Bool
 changes_unmarked i row = writes_unmarked i (uses_of i.opcode).pointer row || moves_unmarked i (uses_of i.opcode).slot row
 
--- a block is locked into a slot that is held
+-- a block is locked into a slot that is not empty
 abbrev pub locks_held : Instr → SlotUse → Row → Bool
 locks_held i (LocksNew kind) row = not (is_empty (slot_state row i.a))
 locks_held i (Locks kind) row = not (is_empty (slot_state row i.a))
@@ -131,8 +130,8 @@ locks_held i _ row = false
 unfoldable pub locks_into_held : Instr → Row → Bool
 locks_into_held i row = locks_held i (uses_of i.opcode).slot row
 
--- a slot that must be held is empty or of another kind; two that are compared must be of one; what is borrowed is not
--- unlocked
+-- the instruction needs a block in a slot that is empty or has another kind, compares slots of two kinds, or unlocks
+-- a borrowed slot
 abbrev pub misuses_slot : Instr → SlotUse → Row → Bool
 misuses_slot i (Unlocks kind) row = not (holds_kind kind (slot_state row i.a)) || not (is_own (slot_state row i.a))
 misuses_slot i (Marks kind) row = not (holds_kind kind (slot_state row i.a))
@@ -171,7 +170,7 @@ unfoldable pub misuses : Instr → Row → Bool
 misuses i row = stale_pointer i row || passes_end i row || changes_unmarked i row || locks_into_held i row || wrong_slot
     i row || commits_with_held i row
 
--- what holds of a routine; of no routine, nothing is asked
+-- the routine passes the test; true if there is no such routine
 abbrev pub at_routine : Parts → ℕ → (Routine → Bool) → Bool
 at_routine image r test = elim (slice_get image.routines r) [ None ↦ true | Some routine ↦ test routine ]
 
@@ -212,8 +211,8 @@ edge_unpaid image pc i row potential =
 unfoldable pub over_budget : Routine → ℕ → ℕ → Potential → Bool
 over_budget routine start pc potential = pc == start && not (is_within routine.budget potential)
 
--- what the rules on edges take for granted of an instruction at a pc of routine r: its fields name
--- what there is, it calls a routine below r, and goes on within the image
+-- what the rules on edges assume of an instruction at a pc of routine r: its fields are in range, it calls only a
+-- routine below r, and its edges stay within the image
 pub record GoesWithin (image : Parts) (r pc : ℕ) (i : Instr) : Type 0 where
   pub fields : FieldsFit i.opcode i
   pub callee : CalleeFits (length image.routines) i

@@ -33,7 +33,7 @@ points_of image r = elim (slice_get image.routines r) [
       (drop (start_of image.routines r) image.points)
 ]
 
--- the instruction names counter k, or calls a routine that is said to touch it
+-- the instruction names counter k, or calls a routine that touches k according to `touched`
 abbrev pub touches_here : (ℕ → Bool) → ℕ → Instr → Bool
 touches_here touched k i = (counts i.opcode && i.a == k) || (calls i.opcode && touched i.imm)
 

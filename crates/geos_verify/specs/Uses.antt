@@ -25,7 +25,7 @@ same_kind VmBlock VmBlock = true
 same_kind DbGroup DbGroup = true
 same_kind _ _ = false
 
--- the slots that such an instruction names are ones that there are
+-- the numbers of the slots that the instruction names are in range
 abbrev pub SlotFits : SlotUse → Instr → Type 0
 SlotFits NoSlot i = Unit {0}
 SlotFits MovesGroup i = Unit {0}
@@ -33,13 +33,13 @@ SlotFits Commits i = Unit {0}
 SlotFits Compares i = (i.a < 4) × (i.b < 4)
 SlotFits _ i = i.a < 4
 
--- so is the word that has the offset
+-- the number of the word that has the offset is in range
 abbrev pub OffsetFits : Offset → Instr → Type 0
 OffsetFits Fixed i = Unit {0}
 OffsetFits Indexed i = i.c < 8
 OffsetFits Tested i = i.c < 8
 
--- and so are the pointers
+-- the numbers of the pointers are in range
 abbrev pub PointerFits : PointerUse → Instr → Type 0
 PointerFits NoPointer i = Unit {0}
 PointerFits Sets i = (i.a < 4) × (i.b < 4)

@@ -8,7 +8,7 @@ ghost use Rattle.geos_verify.specs.Potentials.{asks, asks_setting, asks_taking, 
 use geos_image::{Image, Instr, Opcode, Potential, Row};
 
 /// What an edge asks of the potential before it (docs/VERIFIER.md, paid edges).
-#[derive(Clone, Copy, Debug, PartialEq, Eq)]
+#[derive(Clone, Copy)]
 pub struct Asked {
     /// The steps that must be left.
     pub steps: u64,

@@ -198,7 +198,7 @@ fn slot_misuse(i: &Instr, slot: SlotUse, row: &Row) -> Option<Rule>
     }
 }
 
-/// Whether a pointer of the row names an empty slot. Where it is known that none does, that is not looked at again.
+/// Whether a pointer of the row names an empty slot. The test is skipped if the caller knows that none does.
 fn may_name_empty(row: &Row, names_none: bool) -> bool
     requires { names_none ≡ true → names_empty_slot row.now ≡ false }
     ensures { result ≡ names_empty_slot row.now }

@@ -1,4 +1,4 @@
--- What is known of counters, and what they are, behind an edge.
+-- What is known of counters after an edge is true.
 use Rattle.std.proofs.Common.{◌≡◌, ◌<◌, ℕ, zero, suc, ◌-◌, Bool, true, false, List, [], ◌∷◌, length, Some, None, get_or, set, refl, sym, ap, ◌∙◌, subst, arith, inl, inr, ◌⊎◌}
 use Rattle.std.specs.Prelude.{◌==◌, if◌then◌else◌, option_map}
 use Rattle.std.proofs.lemmas.Bool.{cases_eq, cases_lt, eqb-true, eqb-false}
@@ -25,7 +25,7 @@ kept-at (suc (suc zero)) n = refl
 kept-at (suc (suc (suc zero))) n = refl
 kept-at (suc (suc (suc (suc k)))) n = tt
 
--- nothing is asked of counters of which each is what it is
+-- counters at the start of a path are unchanged
 pub kept-so : (counters : List ℕ) → length counters ≡ 4 → AreSo (all_are Kept) counters counters
 kept-so counters four = record { four = four; each = λ k. kept-at k (get_or counters k 0) }
 
@@ -36,7 +36,7 @@ zero-so (suc (suc zero)) = refl
 zero-so (suc (suc (suc zero))) = refl
 zero-so (suc (suc (suc (suc k)))) = tt
 
--- counters that are 0 are so
+-- counters that are 0 are known to be 0
 pub zeros-so : AreSo (all_are (Is 0)) zeros zeros
 zeros-so = record { four = refl; each = zero-so }
 
@@ -66,7 +66,7 @@ so-set known begin now a n counter so few is = record { four = length-set now a 
           (subst (IsSo (counter_at known k) (get_or begin k 0)) (sym (get_or-set_other now a k n 0 ne)) (so.each k))
     ]
 
--- Behind a further way
+-- After one more path
 
 so-unless : (way counter : Counter) (begin now next : ℕ) → IsSo counter begin now → (way ≡ Kept → next ≡ now)
     → IsSo (unless_changed way counter) begin next
@@ -81,7 +81,7 @@ unless-at (w ∷ way) [] k = inl refl
 unless-at (w ∷ way) (c ∷ known) zero = inr refl
 unless-at (w ∷ way) (c ∷ known) (suc k) = unless-at way known k
 
--- counters that the way does not keep are unknown behind it
+-- counters that the path may change are unknown after it
 pub so-behind : (way known : List Counter) (begin now next : List ℕ) (k : ℕ) → AreSo known begin now
     → (counter_at way k ≡ Kept → get_or next k 0 ≡ get_or now k 0)
     → IsSo (counter_at (zip2 unless_changed way known) k) (get_or begin k 0) (get_or next k 0)
@@ -91,9 +91,9 @@ so-behind way known begin now next k so kept = elim (unless-at way known k) [
       (so-unless (counter_at way k) (counter_at known k) (get_or begin k 0) (get_or now k 0) (get_or next k 0) (so.each k) kept)
 ]
 
--- Behind an edge
+-- After an edge
 
--- counters behind an edge, which are as is known there
+-- counters after an edge, of which what is known is true
 pub record CountsTo (word : ℕ) (image : Parts) (i : Instr) (opcode : Opcode) (branch : Bool) (known : List Counter)
     (begin now : List ℕ) : Type 0 where
   pub after : List ℕ
@@ -139,7 +139,7 @@ loop-counts word image i true known next begin now (Is n) at so few e =
 loop-counts word image i branch known next begin now Kept at so few e = absurd (none-some next e)
 loop-counts word image i branch known next begin now Unknown at so few e = absurd (none-some next e)
 
--- what is known of counters behind an edge is so
+-- what is known of counters after an edge is true
 pub counts-to : (word : ℕ) (image : Parts) (i : Instr) (opcode : Opcode) (branch : Bool) (called known next : List Counter) (begin now : List ℕ)
     → FieldsFit opcode i → AreSo known begin now
     → counters_after word i opcode branch called known ≡ Some next → CountsTo word image i opcode branch next begin now

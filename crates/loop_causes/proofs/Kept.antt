@@ -1,11 +1,11 @@
--- Ways on which a counter is kept.
+-- Paths on which a counter does not change.
 use Rattle.std.proofs.Common.{◌+◌, ℕ, Bool, List, [], ◌∷◌, Option, Some}
 use Rattle.geos_image.specs.Parts.{Parts}
 use Rattle.loop_causes.specs.Causes.{ComesRound, IsTrailBut, IsKeptBut}
 use Rattle.geos_counters.specs.Idle.{IsKept}
 use Rattle.geos_counters.specs.Trails.{IsTrail}
 
--- a way that comes to a place at its end alone is a way
+-- a path that avoids a pc is a path
 trail-any : (image : Parts) (r : ℕ) (counter but : Option ℕ) (from : ℕ) (branches : List Bool) (to : ℕ)
     → IsTrailBut image r counter but from branches to → IsTrail image r counter from branches to
 trail-any image r counter but from [] to trail = trail

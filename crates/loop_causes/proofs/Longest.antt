@@ -14,8 +14,8 @@ use Rattle.geos_counters.specs.Steps.{most_steps, taken_at}
 use Rattle.loop_causes.specs.Taken.{Place, Takes}
 use Rattle.geos_counters.specs.Trails.{IsTrail}
 use Rattle.geos_code.specs.Edges.{LeadsTo}
-use Rattle.geos_causes.specs.declared.back_way.BackWay.{BackWay}
-use Rattle.geos_causes.specs.declared.cause.Cause.TheVariants.{SlotsDiffer, NoLoop, SetWithin, SetAgain, TouchedWithin, TouchedBefore, NotSet, InTurn, InRing, StepsPass, WordUnbounded, NumberHigh, WordDear, NumberDear, GivenUp, StepsMayPass, NoSteps, Unfound, Unknown}
+use Rattle.geos_flow.specs.declared.back_way.BackWay.{BackWay}
+use Rattle.geos_flow.specs.declared.cause.Cause.TheVariants.{SlotsDiffer, NoLoop, SetWithin, SetAgain, TouchedWithin, TouchedBefore, NotSet, InTurn, InRing, StepsPass, WordUnbounded, NumberHigh, WordDear, NumberDear, GivenUp, StepsMayPass, NoSteps, Unfound, Unknown}
 use Rattle.loop_causes.proofs.Kept.{comes-any, kept-any}
 use Rattle.geos_rows.proofs.Came.{comes-to}
 use Rattle.geos_code.proofs.Ends.{code-at, leads-one}
@@ -70,7 +70,7 @@ module _ (image : Parts) (r : ℕ) (ahead : OnlyAhead image r) where
   loop-ahead : (back : BackWay) (counter : ℕ) → LoopsTo image r back counter → back.from < back.to
   loop-ahead back counter loops = leads-ahead back.from back.to true loops.from loops.to loops.leads
 
-  -- by no LOOP control goes round
+  -- no LOOP closes a cycle
   none-round : (back : BackWay) (counter : ℕ) → LoopsTo image r back counter → ComesRound image r None back.to back.from → ⊥
   none-round back counter loops round =
       let less = loop-ahead back counter loops in

@@ -1,4 +1,4 @@
--- Ways go on along an edge, and behind the turns of a loop.
+-- Paths that continue along an edge, or after the iterations of a loop.
 use Rattle.std.proofs.Common.{◌≡◌, ◌≢◌, ◌≤◌, ◌<◌, ℕ, zero, suc, ◌+◌, ◌-◌, ◌*◌, Bool, true, false, List, [], ◌∷◌, length, Option, Some, None, slice_get, get_or, set, refl, sym, ap, ◌∙◌, subst, arith, inl, inr}
 use Rattle.std.specs.Prelude.{IfSome}
 use Rattle.std.proofs.lemmas.Bool.{cases_eq, cases_lt}
@@ -35,7 +35,7 @@ record Way (rows : List (Option Row)) (image : Parts) (r : ℕ) (from to : Place
   takes : Takes rows image r from places to taken
   least : steps ≤ taken
 
--- One way behind another
+-- Two paths in sequence
 
 takes-then : (rows : List (Option Row)) (image : Parts) (r : ℕ) (from mid to : Place) (first second : List Place) (m n : ℕ)
     → Takes rows image r from first mid m
@@ -187,7 +187,7 @@ module _ (rows : List (Option Row)) (image : Parts) (r pc : ℕ) (turn : Reach) 
         kept = λ k ne kept. rest.kept k ne kept ∙ first.kept k ne kept;
       }
 
-  -- ways go on behind all turns
+  -- paths continue after the last iteration
   pub goes-behind : (to left : ℕ) (i : Instr) (reach next : Reach) → LeadsTo image pc false to
       → IfSome (slice_get image.points pc) (λ point. i ≡ point.instr) → left ≡ number_in (counter_at reach.counters i.a)
       → next.counters ≡ zip2 unless_changed turn.counters (set reach.counters i.a (Is 0))
@@ -282,7 +282,7 @@ turns-set rows image r turns to next all is_turn pc other e = elim (cases_lt to 
   | inr past ↦ all pc other (ap (λ (l : List (Option Reach)). get_or l pc None) (sym (set_past turns to (Some next) past)) ∙ e)
 ]
 
--- Where ways begin, and where they pass what a potential can say
+-- The starts of paths, and paths with more steps than a potential can say
 
 at-once : (rows : List (Option Row)) (image : Parts) (r : ℕ) (begin : Begin) (pc : ℕ) (reach : Reach) (first : List ℕ) → begin.low ≤ pc
     → pc ≤ begin.high → reach.steps ≡ 0 → AreSo reach.counters first first → ComesTo rows image r begin first pc reach

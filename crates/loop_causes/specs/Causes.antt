@@ -1,4 +1,4 @@
--- Causes for which no rows or no numbers of steps are found for a routine, and what each says.
+-- The causes why no rows or no numbers of steps are found for a routine, and what each one says.
 use Rattle.std.specs.Prelude.{◌≡◌, ◌≢◌, ◌≤◌, ◌+◌, ℕ, Bool, ◌&&◌, List, [], ◌∷◌, true, false, ◌==◌, Option, None, Some}
 use Rattle.geos_opcodes.specs.declared.opcode.Opcode.{Opcode}
 use Rattle.geos_opcodes.specs.declared.opcode.Opcode.TheVariants.{Setk, Setkw, Loop}
@@ -14,18 +14,18 @@ use Rattle.geos_rows.specs.Why.{AreApart, MeetAlike}
 use Rattle.geos_counters.specs.Trails.{IsTrail, LeadsKeeping}
 use Rattle.loop_causes.specs.Taken as taken
 use Rattle.loop_causes.specs.Ahead.{MayPass, NonePasses}
-use Rattle.geos_causes.specs.declared.back_way.BackWay.{BackWay}
-use Rattle.geos_causes.specs.declared.cause.Within.{Within}
-use Rattle.geos_causes.specs.declared.cause.LoopOn.{LoopOn}
-use Rattle.geos_causes.specs.declared.cause.LoopPair.{LoopPair}
-use Rattle.geos_causes.specs.declared.cause.LoopRing.{LoopRing}
-use Rattle.geos_causes.specs.declared.cause.ByWord.{ByWord}
-use Rattle.geos_causes.specs.declared.cause.ByNumber.{ByNumber}
-use Rattle.geos_causes.specs.declared.cause.Cause.{Cause}
-use Rattle.geos_causes.specs.declared.cause.Cause.TheVariants.{SlotsDiffer, NoLoop, SetWithin, SetAgain, TouchedWithin, TouchedBefore, NotSet, InTurn, InRing, StepsPass, WordUnbounded, NumberHigh, WordDear, NumberDear, GivenUp, StepsMayPass, NoSteps, Unfound, Unknown}
+use Rattle.geos_flow.specs.declared.back_way.BackWay.{BackWay}
+use Rattle.geos_flow.specs.declared.cause.Within.{Within}
+use Rattle.geos_flow.specs.declared.cause.LoopOn.{LoopOn}
+use Rattle.geos_flow.specs.declared.cause.LoopPair.{LoopPair}
+use Rattle.geos_flow.specs.declared.cause.LoopRing.{LoopRing}
+use Rattle.geos_flow.specs.declared.cause.ByWord.{ByWord}
+use Rattle.geos_flow.specs.declared.cause.ByNumber.{ByNumber}
+use Rattle.geos_flow.specs.declared.cause.Cause.{Cause}
+use Rattle.geos_flow.specs.declared.cause.Cause.TheVariants.{SlotsDiffer, NoLoop, SetWithin, SetAgain, TouchedWithin, TouchedBefore, NotSet, InTurn, InRing, StepsPass, WordUnbounded, NumberHigh, WordDear, NumberDear, GivenUp, StepsMayPass, NoSteps, Unfound, Unknown}
 use Rattle.geos_counters.specs.Idle.{GoesRound, PassesAt, calls_touching, IsKept, IsUnset, IsNeverPaid}
 
--- an instruction of routine r leads back within it by its target
+-- an instruction of routine r has a back edge to a target within the routine
 pub record LeadsBack (image : Parts) (r : ℕ) (back : BackWay) : Type 0 where
   pub leads : LeadsTo image back.from true back.to
   pub order : back.to ≤ back.from
@@ -50,27 +50,29 @@ pub record LoopsTo (image : Parts) (r : ℕ) (back : BackWay) (counter : ℕ) : 
   pub to : IsPcOf image r back.to
   pub loops : PassesAt image back.from (λ i. loops_on counter i i.opcode)
 
--- control can come from one pc of routine r to another, and keep the counter, if one is asked for
+-- a path in routine r leads from one pc to another, and does not change the counter if one is given
 abbrev pub ComesRound : Parts → ℕ → Option ℕ → ℕ → ℕ → Type 0
 ComesRound image r counter from to = (branches : List Bool) × IsTrail image r counter from branches to
 
--- such edges lead from a pc to another, none of them from a third; each says whether it is the one to a target
+-- edges that do not change the counter lead from one pc to another, and none of them starts at the excluded pc; each
+-- flag says whether an edge leads to a target
 abbrev pub IsTrailBut : Parts → ℕ → Option ℕ → Option ℕ → ℕ → List Bool → ℕ → Type 0
 IsTrailBut image r counter but from [] to = from ≡ to
 IsTrailBut image r counter but from (branch ∷ branches) to = (next : ℕ) × (but ≢ Some from) × LeadsKeeping image r counter from branch next
     × IsTrailBut image r counter but next branches to
 
--- control can come from one pc of routine r to another, by edges of which none is from a third
+-- a path in routine r leads from one pc to another, and no edge of the path starts at the excluded pc
 abbrev pub ComesBut : Parts → ℕ → Option ℕ → ℕ → ℕ → Type 0
 ComesBut image r but from to = (branches : List Bool) × IsTrailBut image r None but from branches to
 
--- behind a pc the counter is kept up to another, by edges of which none is from a third
+-- after a pc the counter does not change on a path to another pc, and no edge of the path starts at the excluded pc
 pub record IsKeptBut (image : Parts) (r counter at : ℕ) (but : Option ℕ) (to : ℕ) : Type 0 where
   pub behind : IsPcOf image r (at + 1)
   pub branches : List Bool
   pub trail : IsTrailBut image r (Some counter) but (at + 1) branches to
 
--- within one turn of a loop, from a LOOP's target on, control comes with its counter to where that is set, and from there to the LOOP
+-- within one iteration an instruction sets the counter of the LOOP. The counter does not change from the LOOP's
+-- target up to this instruction, nor from there up to the LOOP.
 pub record SetsWithin (image : Parts) (r : ℕ) (within : Within) : Type 0 where
   pub loops : LoopsTo image r within.back within.counter
   pub here : IsPcOf image r within.at
@@ -78,7 +80,8 @@ pub record SetsWithin (image : Parts) (r : ℕ) (within : Within) : Type 0 where
   pub kept : IsKeptBut image r within.counter within.at (Some within.back.to) within.back.from
   pub round : ComesRound image r (Some within.counter) within.back.to within.at
 
--- within one turn of a loop, from a LOOP's target on, control comes, not by the LOOP, to where its counter is set, and from there to it
+-- within one iteration, a path that avoids the LOOP leads from its target to an instruction that sets its counter,
+-- and from there the counter does not change up to the LOOP
 pub record SetsInTurn (image : Parts) (r : ℕ) (within : Within) : Type 0 where
   pub loops : LoopsTo image r within.back within.counter
   pub here : IsPcOf image r within.at
@@ -86,7 +89,7 @@ pub record SetsInTurn (image : Parts) (r : ℕ) (within : Within) : Type 0 where
   pub kept : IsKeptBut image r within.counter within.at (Some within.back.to) within.back.from
   pub turn : ComesBut image r (Some within.back.from) within.back.to within.at
 
--- a routine is called that touches the counter of a LOOP, and it is not set from there to the LOOP
+-- a called routine touches the counter of a LOOP, and from there the counter is not set on a path to the LOOP
 pub record LeavesTouched (image : Parts) (r : ℕ) (within : Within) : Type 0 where
   pub loops : LoopsTo image r within.back within.counter
   pub here : IsPcOf image r within.at
@@ -103,13 +106,14 @@ pub record TouchesWithin (image : Parts) (r : ℕ) (within : Within) : Type 0 wh
   pub left : LeavesTouched image r within
   pub round : ComesRound image r None within.back.to within.at
 
--- control goes round by a LOOP, and on a way to it from where routine r begins nothing sets its counter, or touches it
+-- a LOOP closes a cycle, and on a path from the start of routine r to the LOOP nothing sets or touches its counter
 pub record TakesUnset (image : Parts) (r : ℕ) (own : LoopOn) : Type 0 where
   pub loops : LoopsTo image r own.back own.counter
   pub unset : IsUnset image r own.counter own.back.from
   pub round : ComesRound image r None own.back.to own.back.from
 
--- in the loop that a LOOP closes, which goes round with its own counter, that of another LOOP is set, and kept from there to that
+-- two LOOPs differ. In the cycle of the first, on which its own counter does not change, an instruction sets the
+-- counter of the other. From there this counter does not change up to the other LOOP.
 pub record SetsFor (image : Parts) (r : ℕ) (back : BackWay) (own : ℕ) (other : BackWay) (counter at : ℕ) : Type 0 where
   pub differ : back.from ≢ other.from
   pub here : IsPcOf image r at
@@ -118,7 +122,7 @@ pub record SetsFor (image : Parts) (r : ℕ) (back : BackWay) (own : ℕ) (other
   pub round : ComesRound image r (Some own) back.to at
   pub again : ComesRound image r (Some own) at back.from
 
--- behind a pc the counter is kept up to a LOOP that takes from it, and control goes round by that
+-- after a pc the counter does not change on a path to a LOOP on it, and this LOOP closes a cycle
 pub record PaysForLoop (image : Parts) (r counter at : ℕ) : Type 0 where
   pub back : BackWay
   pub loops : LoopsTo image r back counter
@@ -141,12 +145,12 @@ pub record WaitsFor (image : Parts) (r : ℕ) (back other : BackWay) : Type 0 wh
   pub loops : LoopsTo image r other counter
   pub sets : SetsFor image r back own other counter at
 
--- LOOPs from one on up to another wait so each for the next; of those between, the last one stands first
+-- a chain of LOOPs in which each one waits for the next; the list has those between, the last one first
 abbrev pub WaitOn : Parts → ℕ → BackWay → List BackWay → BackWay → Type 0
 WaitOn image r from [] to = from ≡ to
 WaitOn image r from (back ∷ before) to = WaitsFor image r back to × WaitOn image r from before back
 
--- a LOOP waits so for the next, this for a third, and others from there on each for the next, up to the first
+-- a ring of LOOPs: the first waits for the next, this one for a third, and so on back to the first
 pub record WaitInRing (image : Parts) (r : ℕ) (ring : LoopRing) : Type 0 where
   pub loops : LoopsTo image r ring.back ring.counter
   pub sets : SetsFor image r ring.back ring.counter ring.next ring.next_counter ring.at
@@ -162,14 +166,14 @@ abbrev pub sets_to_word : ℕ → ℕ → Instr → Opcode → Bool
 sets_to_word k w i Setkw = (i.a == k) && (i.b == w)
 sets_to_word k w i _ = false
 
--- by rows that hold wherever control reaches in routine r, a word is so much at most at a pc, and by none it is less
+-- `most` is the least bound of a word at a pc in any rows that hold wherever control reaches in routine r
 pub record IsAtMost (image : Parts) (r pc word most : ℕ) : Type 0 where
   pub known : List (Option Row)
   pub holds : FitWhereReached image r known
   pub is : most ≡ bound (row_of (known_at known pc)) word
   pub least : (others : List (Option Row)) → FitWhereReached image r others → most ≤ bound (row_of (known_at others pc)) word
 
--- an instruction of routine r sets a counter to a word, which is so much at most there, for a loop
+-- for a LOOP, an instruction of routine r sets a counter to a word with this bound
 pub record SetsByWord (image : Parts) (r : ℕ) (by_word : ByWord) : Type 0 where
   pub here : IsPcOf image r by_word.at
   pub sets : PassesAt image by_word.at (λ i. sets_to_word by_word.counter by_word.word i i.opcode)
@@ -181,13 +185,14 @@ abbrev pub sets_to_number : ℕ → ℕ → Instr → Opcode → Bool
 sets_to_number k n i Setk = (i.a == k) && (i.imm == n)
 sets_to_number k n i _ = false
 
--- an instruction of routine r sets a counter to a number for a loop
+-- for a LOOP, an instruction of routine r sets a counter to a number
 pub record SetsByNumber (image : Parts) (r : ℕ) (by_number : ByNumber) : Type 0 where
   pub here : IsPcOf image r by_number.at
   pub sets : PassesAt image by_number.at (λ i. sets_to_number by_number.counter by_number.number i i.opcode)
   pub for_loop : PaysForLoop image r by_number.counter by_number.at
 
--- no way leads back in routine r, on none more steps are taken than a potential can say, and slots of rows that meet differ in marks at most
+-- routine r has only forward edges, no path has more steps than a potential can say, and the slots of any two paths
+-- to one pc differ in marks at most
 pub record IsUnexplained (image : Parts) (r : ℕ) : Type 0 where
   pub steps : NonePasses image r
   pub slots : MeetAlike image r
@@ -219,6 +224,6 @@ abbrev pub tells_of_slots : Cause → Bool
 tells_of_slots (SlotsDiffer apart) = true
 tells_of_slots _ = false
 
--- where the cause is unknown, no other one holds
+-- if the cause is unknown, no other cause holds
 abbrev pub NoOtherHolds : Type 0
 NoOtherHolds = (image : Parts) (r : ℕ) (cause : Cause) → Holds image r Unknown → cause ≢ Unknown → Holds image r cause → ⊥

@@ -14,7 +14,7 @@ use Rattle.geos_rows.specs.Reached.{AreAtMostAny}
 use Rattle.geos_counters.specs.Steps.{taken_at, most_steps}
 use Rattle.geos_code.specs.Edges.{LeadsTo}
 
--- where control is, and what the counters k0 to k3 are then
+-- a place of control: the pc, and the counters k0 to k3 there
 pub record Place : Type 0 where
   pub pc : ℕ
   pub counters : List ℕ
@@ -24,12 +24,13 @@ pub record KeepsUntouched (image : Parts) (r : ℕ) (before after : List ℕ) : 
   pub len : length after ≡ length before
   pub each : (k : ℕ) → touches image k r ≡ false → slice_index after k ≡ slice_index before k
 
--- how much a word is taken for at a pc: as much as it may be by the row that is known there; 0, the least, where none is
+-- the value that is assumed of a word at a pc: its bound in the row that is known there, or 0 if none is known
 abbrev pub word_at : List (Option Row) → ℕ → ℕ → ℕ
 word_at rows pc word = elim (known_at rows pc) [ None ↦ 0 | Some row ↦ bound row word ]
 
--- what an edge makes of the counters, where a word is so much: SETK sets its own; SETKW sets its own to the word; LOOP goes to its
--- target where its own is above 0, and takes 1 from it, else on; a call may change those that the routine touches
+-- what an edge does to the counters, if the word has this value. SETK sets its counter to a constant, and SETKW to
+-- the word. A LOOP goes to its target if its counter is above 0, and takes 1 from it; otherwise it goes to the next
+-- instruction. A call may change only counters that the routine touches.
 abbrev pub Counts : ℕ → Parts → Instr → Opcode → Bool → List ℕ → List ℕ → Type 0
 Counts word image i Setk branch before after = after ≡ slice_set before i.a i.imm
 Counts word image i Setkw branch before after = after ≡ slice_set before i.a word
@@ -38,7 +39,8 @@ Counts word image i Loop false before after = (slice_index before i.a ≡ 0) × 
 Counts word image i Call branch before after = KeepsUntouched image i.imm before after
 Counts word image i _ branch before after = after ≡ before
 
--- control goes from a place in routine r to another along an edge; a test may go either way, and words are as much as rows say
+-- control goes along an edge from a place in routine r to another; a test may take both of its edges, and each word
+-- has the bound of its row
 pub record Goes (rows : List (Option Row)) (image : Parts) (r : ℕ) (from to : Place) : Type 0 where
   pub within : IsPcOf image r from.pc
   pub branch : Bool
@@ -61,10 +63,10 @@ pub record StepsPassBy (rows : List (Option Row)) (image : Parts) (r : ℕ) : Ty
   pub way : Takes rows image r (record { pc = from; counters = zeros }) places end before
   pub past : most_steps < before + taken_at image end.pc
 
--- the same where each word is 0
+-- the same if each word is 0
 abbrev pub StepsPass : Parts → ℕ → Type 0
 StepsPass image r = (rows : List (Option Row)) × ((pc : ℕ) → known_at rows pc ≡ None) × StepsPassBy rows image r
 
--- the same where words are as much as some rows say, and none that hold say less
+-- the same if each word has its least bound in any rows that hold
 abbrev pub WordsPass : Parts → ℕ → Type 0
 WordsPass image r = (rows : List (Option Row)) × AreAtMostAny image r rows × StepsPassBy rows image r

@@ -1,4 +1,4 @@
--- What is known of the ways to a place, and of the turns of loops: how many steps they take at least, and what counters are there.
+-- What is known of the paths to a place, and of iterations of loops: the least number of steps, and the counters.
 use Rattle.std.specs.Prelude.{◌≡◌, ◌≤◌, ◌<◌, ◌+◌, ◌*◌, ◌-◌, ℕ, Bool, true, false, ◌==◌, if◌then◌else◌, List, [], ◌∷◌, Option, Some, None, length, option_map, slice_get, slice_index, slice_index_or, slice_set}
 use Rattle.geos_opcodes.specs.declared.opcode.Opcode.{Opcode}
 use Rattle.geos_opcodes.specs.declared.opcode.Opcode.TheVariants.{Setk, Setkw, Loop, Call}
@@ -19,45 +19,47 @@ use Rattle.loop_causes.specs.Taken.{Place, Takes}
 abbrev pub counter_at : List Counter → ℕ → Counter
 counter_at counters k = slice_index_or counters k Unknown
 
--- the same of all four
+-- four counters of which the same is known
 abbrev pub all_are : Counter → List Counter
 all_are counter = counter ∷ counter ∷ counter ∷ counter ∷ []
 
--- what a counter is now, which was so much where the way begins, is as is known
+-- what is known of a counter is true, with its value at the start of the path and now
 abbrev pub IsSo : Counter → ℕ → ℕ → Type 0
 IsSo Kept begin now = now ≡ begin
 IsSo (Is n) begin now = now ≡ n
 IsSo Unknown begin now = Unit {0}
 
--- the same of all four
+-- what is known of the four counters is true
 pub record AreSo (known : List Counter) (begin now : List ℕ) : Type 0 where
   pub four : length now ≡ 4
   pub each : (k : ℕ) → IsSo (counter_at known k) (slice_index begin k) (slice_index now k)
 
--- how much a counter is at least
+-- the least value of a counter
 abbrev pub number_in : Counter → ℕ
 number_in (Is n) = n
 number_in _ = 0
 
--- the steps of a way, with those of the turns that its counters may still take, where the longest turns of each take so many
+-- the steps of a path, with those of the iterations that its counters still allow, if the longest iterations take so
+-- many steps
 abbrev pub worth : Reach → List ℕ → ℕ
 worth reach longest = reach.steps + number_in (counter_at reach.counters 0) * slice_index longest 0
     + number_in (counter_at reach.counters 1) * slice_index longest 1
     + number_in (counter_at reach.counters 2) * slice_index longest 2
     + number_in (counter_at reach.counters 3) * slice_index longest 3
 
--- what is known of a counter behind a further way, on which it is kept or not
+-- what is known of a counter after one more path, which leaves it unchanged or not
 abbrev pub unless_changed : Counter → Counter → Counter
 unless_changed Kept counter = counter
 unless_changed _ counter = Unknown
 
--- what is known of a LOOP's counter behind one of its edges, if that is taken
+-- what is known of a LOOP's counter after one of its edges, or None if control can't be known to take this edge
 abbrev pub loop_after : Counter → Bool → Option Counter
 loop_after (Is n) true = if n == 0 then None else Some (Is (n - 1))
 loop_after (Is n) false = if n == 0 then Some (Is 0) else None
 loop_after _ branch = None
 
--- what is known of counters behind an edge of an instruction, if it is taken, where a word is so much, and a call changes such ones
+-- what is known of the counters after an edge of an instruction, or None if control can't be known to take it. The
+-- word has this value, and a call leaves only the counters unchanged that `called` lists as such.
 abbrev pub counters_after : ℕ → Instr → Opcode → Bool → List Counter → List Counter → Option (List Counter)
 counters_after word i Setk branch called known = Some (slice_set known i.a (Is i.imm))
 counters_after word i Setkw branch called known = Some (slice_set known i.a (Is word))
@@ -65,23 +67,24 @@ counters_after word i Loop branch called known = option_map (slice_set known i.a
 counters_after word i Call branch called known = Some (zip2 unless_changed called known)
 counters_after word i _ branch called known = Some known
 
--- Ways, on which words are as much as rows say
+-- Paths on which each word has the bound of its row
 
--- where ways begin: at some pc from one up to another, with counters of which so much is known
+-- the start of paths: some pc between two, with what is known of the counters there
 pub record Begin : Type 0 where
   pub low : ℕ
   pub high : ℕ
   pub known : List Counter
 
--- ways that begin at a pc, with any counters
+-- paths that start at a pc, with any counters
 abbrev pub begin_at : ℕ → Begin
 begin_at pc = record { low = pc; high = pc; known = all_are Kept }
 
--- ways that begin at some pc from one up to another, with counters that are 0
+-- paths that start at some pc between two, with all counters 0
 abbrev pub begin_from : ℕ → ℕ → Begin
 begin_from low high = record { low = low; high = high; known = all_are (Is 0) }
 
--- a way that begins with these counters comes to a pc, takes at least so many steps, and counters are as known there
+-- a path that starts with these counters leads to a pc and takes at least so many steps, and what is known of the
+-- counters there is true
 pub record ComesTo (rows : List (Option Row)) (image : Parts) (r : ℕ) (begin : Begin) (counters : List ℕ) (pc : ℕ) (reach : Reach) : Type 0 where
   pub from : ℕ
   pub above : begin.low ≤ from
@@ -93,25 +96,26 @@ pub record ComesTo (rows : List (Option Row)) (image : Parts) (r : ℕ) (begin :
   pub least : reach.steps ≤ steps
   pub so : AreSo reach.counters counters now
 
--- the same whatever the counters are at first
+-- the same for all counters with which paths may start
 abbrev pub AlwaysComesTo : List (Option Row) → Parts → ℕ → Begin → ℕ → Reach → Type 0
 AlwaysComesTo rows image r begin pc reach = (counters : List ℕ) → AreSo begin.known counters counters → ComesTo rows image r begin counters pc reach
 
--- ways that come to a pc go on to another
+-- each path to one pc can be continued to another
 abbrev pub GoOn : List (Option Row) → Parts → ℕ → ℕ → Reach → ℕ → Reach → Type 0
 GoOn rows image r pc reach to next = (begin : Begin) → AlwaysComesTo rows image r begin pc reach → AlwaysComesTo rows image r begin to next
 
--- from a pc up to another, what a table says of ways to places is so
+-- for each pc between two, what a table says of paths to the pc is true
 abbrev pub AreReached : List (Option Row) → Parts → ℕ → Begin → ℕ → ℕ → List (Option Reach) → Type 0
 AreReached rows image r begin low high reached = (pc : ℕ) (reach : Reach) → low ≤ pc → pc ≤ high → slice_index_or reached pc None ≡ Some reach
     → AlwaysComesTo rows image r begin pc reach
 
--- what a table says of ways to these places is so next, if it was
+-- if what a table says of paths to these places was true, it still is
 abbrev pub StayReached : List (Option Row) → Parts → ℕ → ℕ → ℕ → List (Option Reach) → List (Option Reach) → Type 0
 StayReached rows image r low high reached next = (begin : Begin) → AreReached rows image r begin low high reached
     → AreReached rows image r begin low high next
 
--- the instruction at a pc of routine r is a LOOP, and a turn leads from its target to it again, with its counter as before
+-- the instruction at a pc of routine r is a LOOP, and an iteration leads from its target back to it, with its counter
+-- unchanged
 pub record IsTurn (rows : List (Option Row)) (image : Parts) (r pc : ℕ) (turn : Reach) : Type 0 where
   pub within : IsPcOf image r pc
   pub point : Point
@@ -121,6 +125,6 @@ pub record IsTurn (rows : List (Option Row)) (image : Parts) (r pc : ℕ) (turn 
   pub way : AlwaysComesTo rows image r (begin_at point.instr.target) pc turn
   pub kept : counter_at turn.counters point.instr.a ≡ Kept
 
--- what a table says of turns is so
+-- what a table says of iterations is true
 abbrev pub AreTurns : List (Option Row) → Parts → ℕ → List (Option Reach) → Type 0
 AreTurns rows image r turns = (pc : ℕ) (turn : Reach) → slice_index_or turns pc None ≡ Some turn → IsTurn rows image r pc turn

@@ -5,7 +5,7 @@ ghost use Rattle.loop_causes.specs.Ahead.{OnlyAhead, MayPass, NonePasses, IsLong
 
 use geos_code::{Body, edge_in};
 use geos_counters::taken_at;
-use pc_tables::Table;
+use geos_image::Table;
 use std::alloc::{AllocError, Global};
 
 /// The number of steps after an edge; 0 if the instruction at the pc has no such edge, or the edge leaves the routine.

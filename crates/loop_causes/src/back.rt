@@ -6,8 +6,8 @@ ghost use Rattle.loop_causes.specs.Ahead.{OnlyAhead};
 ghost use Rattle.loop_causes.specs.Causes.{LeadsBack, Holds};
 ghost use Rattle.loop_causes.specs.Tells.{tells_of_looks};
 
-use geos_causes::{BackWay, Cause};
 use geos_code::{Body, edge_in};
+use geos_flow::{BackWay, Cause};
 
 /// The edge of the instruction to its target, if that leads back.
 fn back_at(body: &Body, from: u16) -> Option<BackWay>

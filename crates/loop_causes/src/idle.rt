@@ -9,9 +9,9 @@ ghost use Rattle.loop_causes.specs.Tells.{IsOfLoop, tells_of_ways};
 use crate::trails::Trails;
 use crate::within::{comes_round, find_touched_before, find_touched_within, loop_at};
 use control_graph::{Graph, Order, Piece};
-use geos_causes::{Cause, LoopOn};
 use geos_code::Body;
 use geos_counters::Touching;
+use geos_flow::{Cause, LoopOn};
 
 /// The LOOP at a pc, if it is on a cycle, and some path to it does not set its counter.
 fn find_not_set(

@@ -11,9 +11,9 @@ use crate::idle::find_touched;
 use crate::trails::Trails;
 use crate::within::{find_set_again, find_set_within};
 use control_graph::{Graph, Order, Piece};
-use geos_causes::{Cause, Within};
 use geos_code::Body;
 use geos_counters::Touching;
+use geos_flow::{Cause, Within};
 
 /// Why the LOOP at a pc of a component may not pay there, if some cycle has no LOOP that may.
 fn cause_at(

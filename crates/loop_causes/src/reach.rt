@@ -4,7 +4,7 @@ ghost use Rattle.std.specs.Prelude.{◌≡◌, ◌<◌, ◌⊎◌, ◌*◌, min,
 ghost use Rattle.loop_causes.specs.Turns.{number_in, worth};
 
 use crate::counters::{Counter, number_in};
-use pc_tables::Table;
+use geos_image::Table;
 
 /// What is known of a way to a place.
 #[derive(Clone, Copy)]

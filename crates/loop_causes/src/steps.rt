@@ -9,10 +9,10 @@ ghost use Rattle.loop_causes.specs.Tells.{tells_of_ways};
 
 use crate::ahead::may_pass;
 use crate::turns::steps_pass;
-use geos_causes::Cause;
 use geos_code::Body;
 use geos_counters::Touching;
-use pc_tables::Table;
+use geos_flow::Cause;
+use geos_image::Table;
 use std::alloc::{AllocError, Global};
 
 /// Whether some path takes more steps than the greatest potential, if each word is 0. `AllocError` if the allocator refuses memory.

@@ -9,9 +9,8 @@ ghost use Rattle.geos_counters.specs.Trails.{LeadsKeeping, keeps};
 use control_graph::{Graph, Pile};
 use geos_code::{Body, edge_in};
 use geos_counters::{Touching, touches};
-use geos_image::{Instr, MOST_INSTRS, Opcode};
+use geos_image::{Instr, MOST_INSTRS, Opcode, Table, two_tables};
 use geos_verify::Touched;
-use pc_tables::{Table, two_tables};
 use std::alloc::{AllocError, Global};
 
 /// An edge by which control comes to a place.

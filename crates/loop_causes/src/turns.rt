@@ -11,8 +11,8 @@ use crate::counters::{
 use crate::reach::{Reach, Reached, note};
 use geos_code::{Body, Known, Lead, edge_in, is_loop};
 use geos_counters::{taken_at, touched_by};
+use geos_image::two_tables;
 use geos_verify::Touched;
-use pc_tables::two_tables;
 use std::alloc::{AllocError, Global};
 
 /// A routine, and what is known of its loops.

@@ -7,9 +7,9 @@ ghost use Rattle.loop_causes.specs.Causes.{SetsFor};
 use crate::trails::Trails;
 use crate::within::{comes_round, kept_from, note_set, sets_at};
 use control_graph::{Graph, Order, Piece};
-use geos_causes::BackWay;
 use geos_code::Body;
 use geos_counters::Touching;
+use geos_flow::BackWay;
 
 /// An instruction of a piece, in the loop that a LOOP closes with its own counter, that sets the counter of another LOOP, and from which
 /// some path leaves it unchanged up to that LOOP.

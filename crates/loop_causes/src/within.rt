@@ -12,9 +12,9 @@ ghost use Rattle.geos_code.specs.Code.{IsPcOf};
 
 use crate::trails::{Came, Trails};
 use control_graph::{Graph, Order, Piece};
-use geos_causes::{BackWay, Within};
 use geos_code::{Body, edge_in, is_loop};
 use geos_counters::{Touching, touches};
+use geos_flow::{BackWay, Within};
 use geos_image::{Instr, Opcode};
 
 /// The way of the LOOP at a pc to its target, and its counter.

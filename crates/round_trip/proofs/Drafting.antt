@@ -126,7 +126,7 @@ module _ (image : Parts) (facts : Facts image) where
       ∙ instr-there (n + 1) pc point (awaited routines code part line r (Some n)) e
       ∙ instr-taken (n + 1) pc point routines code part line r (Some n) e inside room
 
-  -- the part of a routine behind so many of its instructions
+  -- which part of a routine comes after k of its instructions
   abbrev pub part_behind : TextPart → ℕ → TextPart
   part_behind part zero = part
   part_behind part (suc k) = body
@@ -146,7 +146,7 @@ module _ (image : Parts) (facts : Facts image) where
   so_many (y ∷ xs) zero x e = refl
   so_many (y ∷ xs) (suc k) x e = ap suc (so_many xs k x e)
 
-  -- the draft behind so many instructions of a routine
+  -- the draft after k instructions of a routine
   abbrev pub behind : List TextRoutine → TextPart → ℕ → Routine → ℕ → ℕ → Draft
   behind routines part line r start k = drafted routines (take (start + k) (instrs_of image.points)) (part_behind part k) line (record r { count = k })
 

@@ -11,7 +11,7 @@ use Rattle.round_trip.proofs.Spaced.{is_said}
 use Rattle.round_trip.proofs.RowsAgain.{words_below as lines_below}
 use Rattle.round_trip.proofs.TextLines.{lines-more}
 
--- lines with an end behind each
+-- lines with a line end after each
 abbrev pub ended : List (List ℕ) → List ℕ
 ended [] = []
 ended (line ∷ lines) = line ++ codes "\n" ++ ended lines

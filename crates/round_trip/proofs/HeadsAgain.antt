@@ -17,12 +17,12 @@ use Rattle.round_trip.proofs.NumbersAgain.{numbered-again, decimal-word}
 use Rattle.round_trip.proofs.NamesAgain.{name_of-again, name-word}
 use Rattle.round_trip.proofs.InstrLines.{parted-statement}
 
--- the words behind a routine's name
+-- the words after a routine's name
 abbrev pub budget_words : Bool → ℕ → List (List ℕ)
 budget_words false budget = codes "budget" ∷ decimal budget ∷ []
 budget_words true budget = codes "public" ∷ codes "budget" ∷ decimal budget ∷ []
 
--- the words behind `routine`
+-- the words after `routine`
 abbrev pub head_words : Routine → List (List ℕ)
 head_words r = name_text r ∷ budget_words r.public r.budget
 
@@ -50,7 +50,7 @@ budget-words : (public : Bool) (budget : ℕ) → budget < 2 ^ 32 → list_all i
 budget-words false budget long = and_from (is_word (decimal budget)) true (decimal-word budget (omega (arith, long))) refl
 budget-words true budget long = and_from (is_word (decimal budget)) true (decimal-word budget (omega (arith, long))) refl
 
--- the words behind `routine` are words
+-- the words after `routine` are words
 pub head-words : (r : Routine) → is_name r.name ≡ true → length r.name ≡ 16 → r.budget < 2 ^ 32 → list_all is_word (head_words r) ≡ true
 head-words r legal long budget =
     and_from (is_word (name_text r)) (list_all is_word (budget_words r.public r.budget)) (name-word r.name legal long)

@@ -66,7 +66,7 @@ operands-words instrs routines i named short legal =
     put kinds.a i.a _ below.a (put kinds.b i.b _ below.b
     (put kinds.c i.c _ below.c (put kinds.d i.d _ below.d (put kinds.imm i.imm _ below.imm (put kinds.target i.target [] below.target refl)))))
 
--- an opcode's word is a word, and none that means something else in front of a line
+-- an opcode's word is a word, and none that has another meaning at the start of a line
 pub record IsInstrWord (text : List ℕ) : Type 0 where
   pub word : is_word text ≡ true
   pub no_label : label_of text ≡ None

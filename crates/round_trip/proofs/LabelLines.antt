@@ -16,7 +16,7 @@ use Rattle.round_trip.proofs.NamesAgain.{label_name, label-again, label-word}
 abbrev pub label_line_text : ℕ → List ℕ
 label_line_text pc = label_text pc ++ codes ":"
 
--- a word with a colon behind it is the label of that word
+-- a word followed by a colon is the label of this word
 label_of-word : (word : List ℕ) → label_of (word ++ codes ":") ≡ name_of word
 unfolding label_of
 label_of-word word =

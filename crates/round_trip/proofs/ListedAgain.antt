@@ -57,7 +57,7 @@ module _ (image : Parts) (known : Facts image) where
       let same = ap length b.routines in
       omega (arith, mapped, took, same, le)
 
-  -- a routine begins behind those
+  -- a routine begins after the routines before it
   begins : (m n : ℕ) (r : Routine) (t : Draft) → Between image n t → n < length image.routines
       → begin m (Ok (begun_as r)) (close t) ≡ drafted (close t).routines (take (start_of image.routines n + 0) (instrs_of image.points))
       (head m false false) m (begun_as r)
@@ -88,7 +88,7 @@ module _ (image : Parts) (known : Facts image) where
   filled part zero some = absurd (omega (arith, some))
   filled part (suc count) some = refl
 
-  -- the routine is complete behind its lines
+  -- the routine is complete after its lines
   ends : (n m : ℕ) (r : Routine) (routines : List TextRoutine) (part : TextPart) → slice_get image.routines n ≡ Some r
       → 0 < r.count → map routine_of routines ≡ take n image.routines
       → Between image (suc n) (behind image known routines part m r (start_of image.routines n) r.count)

@@ -80,7 +80,7 @@ not_first name (y ∷ earlier) later x h =
     let p = not_named (bytes_eq y.name name) (is_named name (earlier ++ (x ∷ later))) h in
     not_first name earlier later x (ap not p.1)
 
--- routines behind one lack its name
+-- later routines have other names
 later_lack : (borrows : Bool) (earlier between routines : List Routine) (x r : Routine) (n : ℕ)
     → are_routines borrows (earlier ++ (x ∷ between)) routines ≡ true → slice_get routines n ≡ Some r → bytes_eq x.name r.name ≡ false
 later_lack borrows earlier between [] x r n h e = absurd cc

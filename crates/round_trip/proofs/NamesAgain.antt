@@ -22,7 +22,7 @@ is_name-from word short first bytes =
     let b = is_ascii_alphabetic (slice_index word 0) in
     and_from (a && b) (list_all is_name_byte word) (and_from a b (le-leb (length word) 16 short) first) bytes
 
--- a name in 16 bytes, with zeros behind it
+-- a name in 16 bytes, with zeros after it
 abbrev pub padded : List ℕ → List ℕ
 padded word = word ++ replicate (16 - length word) 0
 
@@ -30,7 +30,7 @@ name_of-is : (word : List ℕ) → is_name word ≡ true → name_of word ≡ So
 unfolding name_of
 name_of-is word h = ap (λ b. cond b (Some (padded word)) None) h
 
--- bytes of names stand in words
+-- the bytes of names may be in words
 name-inner : (word : List ℕ) → list_all is_name_byte word ≡ true → list_all is_inner word ≡ true
 unfolding is_name_byte
 name-inner word h =
@@ -45,7 +45,7 @@ all_zeros (b ∷ text) h =
     let p = and_parts (b == 0) (list_all (λ b. b == 0) text) h in
     ap (λ c. c ∷ text) (eqb-true b 0 p.0) ∙ ap (λ bytes. 0 ∷ bytes) (all_zeros text p.1)
 
--- a letter in front of zeros stands in the text
+-- if a name that is padded with zeros begins with a letter, so does its text
 first_of : (len : ℕ) (name : List ℕ) → is_ascii_alphabetic (slice_index name 0) ≡ true → list_all (λ b. b == 0) (drop len name) ≡ true
     → is_ascii_alphabetic (slice_index (take len name) 0) ≡ true
 first_of zero [] h zeros = h
@@ -87,7 +87,7 @@ name_parts name legal long =
       whole = ap (λ bytes. take len name ++ bytes) (sym zeros) ∙ take-append-drop len name;
     }
 
--- a name without the zeros behind it is that name
+-- a name without the zeros after it is read as this name
 pub name_of-again : (name : List ℕ) → is_image_name name ≡ true → length name ≡ 16 → name_of (take (unwrap_or (text_end name) 16) name) ≡ Some name
 name_of-again name legal long =
     let text = take (unwrap_or (text_end name) 16) name in

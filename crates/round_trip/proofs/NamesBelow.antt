@@ -15,7 +15,7 @@ false_unless : (b : Bool) → (b ≡ true → ⊥) → b ≡ false
 false_unless true h = absurd (h refl)
 false_unless false h = refl
 
--- names that are not equal are told apart
+-- the comparison of two different names is false
 pub told_apart : (name other : List ℕ) → (name ≡ other → ⊥) → bytes_eq name other ≡ false
 told_apart name other differ = false_unless (bytes_eq name other) (λ e. differ ((bytes_eq-Decides name other).0 e))
 
@@ -23,7 +23,7 @@ told_apart name other differ = false_unless (bytes_eq name other) (λ e. differ 
 pub same_name : (name : List ℕ) → bytes_eq name name ≡ true
 same_name name = (bytes_eq-Decides name name).1 refl
 
--- a name is told from another as the other from it
+-- the comparison of two names is symmetric
 pub apart-sym : (name other : List ℕ) → bytes_eq name other ≡ false → bytes_eq other name ≡ false
 apart-sym name other e = told_apart other name (λ same. absurd (both (bytes_eq name other) e ((bytes_eq-Decides name other).1 (sym same))))
   where
@@ -75,7 +75,7 @@ known key is most (suc n) j differ lt le passes =
 
 -- ---- labels
 
--- the bytes in front of the first zero
+-- the bytes before the first zero
 abbrev unpadded : List ℕ → List ℕ
 unpadded [] = []
 unpadded (b ∷ bytes) = cond (b == 0) [] (b ∷ unpadded bytes)

@@ -35,7 +35,7 @@ operand_word routines Shift n = decimal n
 operand_word routines Routine n = option_map_or name_text (slice_get routines n) []
 operand_word routines Label n = label_text n
 
--- it stands in front of the others, if there is one
+-- the word of an operand, if it has one, before the other words
 abbrev pub in_front : List routine.Routine → Operand → ℕ → List (List ℕ) → List (List ℕ)
 in_front routines kind n words = if is_written kind then operand_word routines kind n ∷ words else words
 
@@ -58,7 +58,7 @@ operand-spaced routines Shift n text words e = ap (λ (t : List ℕ). operand_te
 operand-spaced routines Routine n text words e = ap (λ (t : List ℕ). operand_text routines Routine n ++ t) e
 operand-spaced routines Label n text words e = ap (λ (t : List ℕ). operand_text routines Label n ++ t) e
 
--- the operands are written as those words, with a blank in front of each
+-- the operands are written as these words, with a blank before each
 pub operands-spaced : (routines : List routine.Routine) (i : Instr) → operands_text routines i ≡ spaced (operand_words routines i)
 operands-spaced routines i =
     let kinds = operands_of i.opcode in

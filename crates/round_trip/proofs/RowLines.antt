@@ -78,7 +78,7 @@ pub open-again : (row : Row) → IsSound row → row_words row ≡ [] → open_r
 unfolding row_of
 open-again row sound none = ok_is open_row row (ap row_of (sym none) ∙ row_of-again row sound)
 
--- the word in front of a row's items: `in` or `out`
+-- the word before a row's items: `in` or `out`
 pub record IsRowWord (text : List ℕ) : Type 0 where
   pub word : is_word text ≡ true
   pub no_label : label_of text ≡ None
@@ -106,6 +106,6 @@ line_unless : (word : List ℕ) (words : List (List ℕ)) → cond (length (spac
 line_unless word [] = refl
 line_unless word (first ∷ words) = rw (ne_eqb (length (spaced (first ∷ words))) 0 (λ none. omega (arith, none))) refl
 
--- the line stands there unless the row is open
+-- the line is written unless the row is open
 pub row_line-text : (word : List ℕ) (row : Row) → IsSound row → row_line word row ≡ cond (is_empty (row_words row)) [] (row_text word row ++ codes "\n")
 row_line-text word row sound = ap (λ (t : List ℕ). cond (length t == 0) [] (word ++ t ++ codes "\n")) (row_items-spaced row sound) ∙ line_unless word (row_words row)

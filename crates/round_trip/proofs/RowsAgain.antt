@@ -152,7 +152,7 @@ pairs-written pair true digits =
     ap (λ (ds : List ℕ). codes " s" ++ ds ++ codes "#s" ++ decimal pair.1) (decimal_digit pair.0 (ltb-true pair.0 10 p.0))
     ∙ ap (λ (ds : List ℕ). codes " s" ++ ((48 + pair.0) ∷ []) ++ codes "#s" ++ ds) (decimal_digit pair.1 (ltb-true pair.1 10 p.1))
 
--- a row's items are written as those words, with a blank in front of each
+-- a row's items are written as these words, with a blank before each
 pub row_items-spaced : (row : Row) → IsSound row → row_items row ≡ spaced (row_words row)
 unfolding row_items
 row_items-spaced row sound =

@@ -1,4 +1,4 @@
--- Words that are written with a blank in front of each are read back.
+-- Words that are written with a blank before each are read back.
 use Rattle.std.proofs.Common.{◌≡◌, ◌∙◌, ℕ, Bool, true, false, not, ◌&&◌, ◌==◌, List, [], ◌∷◌, ◌++◌, length, filter, refl, ap, arith}
 use Rattle.std.specs.Prelude.{codes}
 use Rattle.std.specs.List.{All, list_all, slice_split, before_first, position_or_len}
@@ -19,11 +19,11 @@ is_said b = not (b == 59) && not (b == 10) && not (b == 13)
 abbrev pub is_inner : ℕ → Bool
 is_inner b = not (is_blank b) && is_said b
 
--- a word of such bytes
+-- a word of bytes that words may have
 abbrev pub is_word : List ℕ → Bool
 is_word word = not (is_empty word) && list_all is_inner word
 
--- words with a blank in front of each
+-- words with a blank before each
 abbrev pub spaced : List (List ℕ) → List ℕ
 spaced [] = []
 spaced (word ∷ words) = 32 ∷ (word ++ spaced words)
@@ -57,7 +57,7 @@ said-feed b h =
     let two = not (b == 10) in
     false_of (b == 10) ((and_parts one two ((and_parts (one && two) (not (b == 13)) h).0)).1)
 
--- where no element passes, all stand before the first that does
+-- if no element passes the test, all elements come before the first that does
 pub before_none : (p : ℕ → Bool) (text : List ℕ) → All (λ b. p b ≡ false) text → before_first p text ≡ text
 before_none p text none =
     let end : position_or_len p text ≡ length text = position_or_len_is p text (length text) 0 (omega arith)
@@ -74,7 +74,7 @@ kept : (word : List ℕ) (parts : List (List ℕ)) → is_word word ≡ true →
 kept [] parts h = absurd cc
 kept (b ∷ word) parts h = refl
 
--- words with a blank in front of each but the first are those words
+-- words with a blank before each except the first are read back
 pub words-spaced : (word : List ℕ) (others : List (List ℕ)) → is_word word ≡ true → list_all is_word others ≡ true
     → words (word ++ spaced others) ≡ word ∷ others
 words-spaced word [] h all =

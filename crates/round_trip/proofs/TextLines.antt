@@ -32,7 +32,7 @@ parts-first : (line : List ℕ) (parts : List (List ℕ)) → 0 < length parts
 parts-first line [] some = absurd (omega (arith, some))
 parts-first line (part ∷ parts) some = refl
 
--- a line with its end in front of a text is the text's first line
+-- a line with its end, followed by a text, is the text's first line
 pub lines-more : (line rest : List ℕ) → list_all is_said line ≡ true → lines (line ++ codes "\n" ++ rest) ≡ line ∷ lines rest
 lines-more line rest h =
     let feed : ℕ → Bool = λ b. b == 10 in

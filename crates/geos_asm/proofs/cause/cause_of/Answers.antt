@@ -1,7 +1,7 @@
 use Rattle.std.proofs.Common.{◌≡◌, false, refl, sym, subst}
 use Rattle.std.specs.Prelude.{IfOk}
 use Rattle.std.proofs.lemmas.Result.{IfOk-weaker}
-use Rattle.geos_causes.specs.declared.cause.Cause.TheVariants.{SlotsDiffer}
+use Rattle.geos_flow.specs.declared.cause.Cause.TheVariants.{SlotsDiffer}
 use Rattle.geos_rows.specs.Why.{MeetAlike}
 use Rattle.geos_rows.proofs.Held.{fit-alike}
 use Rattle.loop_causes.specs.Causes.{Holds, tells_of_slots}

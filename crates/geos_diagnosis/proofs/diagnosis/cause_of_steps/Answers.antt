@@ -4,7 +4,7 @@ use Rattle.geos_potentials.specs.Reasons.{IsReason}
 use Rattle.geos_potentials.specs.declared.reason.Reason.{Reason}
 use Rattle.geos_rows.proofs.Held.{fit-alike}
 use Rattle.geos_diagnosis.specs.Tells.{TellsOfReason}
-use Rattle.geos_causes.specs.declared.cause.Cause.TheVariants.{NoLoop}
+use Rattle.geos_flow.specs.declared.cause.Cause.TheVariants.{NoLoop}
 use Rattle.geos_diagnosis.proofs.diagnosis.cause_of_steps.Goals as goal
 
 pub cause_of_many-requires-clause-loops : goal.cause_of_many-requires-clause-loops

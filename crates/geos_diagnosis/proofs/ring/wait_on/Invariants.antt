@@ -1,6 +1,6 @@
 use Rattle.std.proofs.Common.{◌<◌, List}
 use Rattle.loop_causes.specs.Causes.{LoopsTo, WaitOn}
-use Rattle.geos_causes.specs.declared.back_way.BackWay.{BackWay}
+use Rattle.geos_flow.specs.declared.back_way.BackWay.{BackWay}
 use Rattle.geos_diagnosis.proofs.ring.wait_on.Given as goal
 
 -- loops from the first one on wait each for the next

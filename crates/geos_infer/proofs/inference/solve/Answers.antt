@@ -10,7 +10,7 @@ use Rattle.geos_potentials.specs.declared.reason.Unfound.{Unfound}
 use Rattle.geos_potentials.proofs.Staying.{not-some}
 use Rattle.geos_rows.specs.Flow.{HaveFlowed}
 use Rattle.geos_rows.specs.Why.{AreApart}
-use Rattle.geos_causes.specs.declared.apart.Apart.{Apart}
+use Rattle.geos_flow.specs.declared.apart.Apart.{Apart}
 use Rattle.geos_infer.proofs.Stopping.{no-steps, no-rows}
 use Rattle.geos_infer.proofs.inference.solve.Goals as goal
 

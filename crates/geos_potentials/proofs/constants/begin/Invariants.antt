@@ -3,7 +3,8 @@ use Rattle.geos_code.specs.Code.{IsPcOf}
 use Rattle.geos_potentials.specs.Least.{PayEnds, NoneOutside, IsLookedAt, link_at, steps_at}
 use Rattle.geos_potentials.proofs.constants.begin.Given as goal
 
--- the ways from the instructions before pc are ends; no edge from outside of the routine is looked at, and each one from before pc is
+-- the paths from the instructions before pc are ends; of the edges that start in the routine before pc all are
+-- examined, and of those that start outside of it none
 abbrev pub invariant-loop-pc : goal.invariant-loop-pc
 invariant-loop-pc l = record {
   outside : NoneOutside l.body.image.now l.body.r l.units.lengths.links;

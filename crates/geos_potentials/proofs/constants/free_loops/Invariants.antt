@@ -3,7 +3,8 @@ use Rattle.geos_potentials.specs.Demands.{HaveGrown, StayWanted}
 use Rattle.geos_potentials.specs.Least.{StayAtLoops}
 use Rattle.geos_potentials.proofs.constants.free_loops.Given as goal
 
--- edges and ways stay, what was wanted at first still is, and units have only grown, and not at LOOPs that are looked at
+-- edges and paths stay, what was required at first still is, and prices have only grown, but not at LOOPs whose edges
+-- are examined
 abbrev pub invariant-loop-pc : goal.invariant-loop-pc
 invariant-loop-pc l = record {
   lengths : l.units.lengths ≡ l.fn.units.lengths;

@@ -3,7 +3,7 @@ use Rattle.geos_potentials.specs.Demands.{left_in, HaveGrown, StayWanted}
 use Rattle.geos_potentials.specs.Least.{StayAtLoops}
 use Rattle.geos_potentials.proofs.spread.go_back_free.Given as goal
 
--- what was wanted at first still is, and no number is less
+-- what was required at first still is, and no number is less
 abbrev pub invariant-loop-pc : goal.invariant-loop-pc
 invariant-loop-pc l = record {
   wanted : StayWanted l.graph.arcs l.fn.spread l.spread;

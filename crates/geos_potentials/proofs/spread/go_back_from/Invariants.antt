@@ -2,7 +2,7 @@ use Rattle.std.proofs.Common.{◌≤◌, ◌+◌, ◌*◌}
 use Rattle.geos_potentials.specs.Demands.{left_in, HaveGrown, StayWanted}
 use Rattle.geos_potentials.proofs.spread.go_back_from.Given as goal
 
--- what was wanted at first still is, no number is less, and no more is left to do
+-- what was required at first still is, no number is less, and no more is left to do
 abbrev pub invariant-loop : goal.invariant-loop
 invariant-loop l = record {
   wanted : StayWanted l.graph.arcs l.fn.spread l.spread;

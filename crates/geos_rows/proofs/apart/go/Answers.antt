@@ -1,6 +1,6 @@
 use Rattle.std.proofs.Common.{◌<◌, true, length, Some, None, set, refl, sym, ◌∙◌, arith}
 use Rattle.std.proofs.lemmas.List.{get_or-set_same}
-use Rattle.geos_causes.specs.declared.apart.Coming.{Coming}
+use Rattle.geos_flow.specs.declared.apart.Coming.{Coming}
 use Rattle.geos_rows.specs.Meeting.{IsMet}
 use Rattle.geos_rows.proofs.Alike.{alike-refl}
 use Rattle.geos_rows.proofs.Came.{all_come-set}

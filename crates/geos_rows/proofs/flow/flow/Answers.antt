@@ -75,7 +75,7 @@ loop-pc-preserved c =
           );
     }
 
--- where ways meet with slots that differ in marks at most, rows have joins
+-- if the slots of any two paths to one pc differ in marks at most, rows have joins
 pub returns-then-not-spread_ahead-clause-alike : goal.returns-then-not-spread_ahead-clause-alike
 returns-then-not-spread_ahead-clause-alike c = λ meet all.
     let along = c.spread_ahead.ensures.alike meet (c.loop-pc.invariant.alike meet all) in

@@ -3,7 +3,7 @@ use Rattle.geos_code.specs.Known.{known_at}
 use Rattle.geos_rows.specs.Reached.{Keeps}
 use Rattle.geos_rows.proofs.rows.complete.Given as goal
 
--- what was known below pc is kept, and nothing has changed from pc on
+-- what was known below pc is still known, and nothing has changed from pc on
 abbrev pub invariant-loop-pc : goal.invariant-loop-pc
 invariant-loop-pc l = record {
   kept : Keeps l.body.start l.pc l.fn.known l.fn.known l.known;

@@ -5,7 +5,7 @@ use Rattle.geos_image.specs.Parts.{Parts, start_of}
 use Rattle.geos_rows.specs.Flow.{FlowsAnew, HaveFlowed, StaysBefore}
 use Rattle.geos_rows.specs.Reached.{FitWhereReached}
 use Rattle.geos_rows.specs.Why.{AreApart}
-use Rattle.geos_causes.specs.declared.apart.Apart.{Apart}
+use Rattle.geos_flow.specs.declared.apart.Apart.{Apart}
 use Rattle.geos_rows.proofs.Flows.{flows-anew, have_flowed-more}
 use Rattle.geos_rows.proofs.Meeting.{apart-in}
 use Rattle.geos_rows.proofs.Reaching.{fit-before, fit-more}

@@ -3,14 +3,14 @@ use Rattle.geos_image.specs.declared.row.Row.{Row}
 use Rattle.geos_code.specs.Known.{known_at}
 use Rattle.geos_rows.proofs.unreached.guess.Given as goal
 
--- what is known before pc stands there
+-- the table has what is known before pc
 abbrev pub invariant-loop-pc : goal.invariant-loop-pc
 invariant-loop-pc l = record {
   long : length l.from ≡ 4096;
   same : (pc : ℕ) → l.body.start ≤ pc → pc < l.pc → known_at l.from pc ≡ known_at l.known pc;
 }
 
--- what is known stays, and something stands at each place from pc on
+-- what is known stays, and each place from pc on has a row
 abbrev pub invariant-loop-pc-2 : goal.invariant-loop-pc-2
 invariant-loop-pc-2 l = record {
   long : length l.from ≡ 4096;

@@ -5,8 +5,8 @@ use Rattle.geos_image.specs.Parts.{start_of}
 use Rattle.geos_rows.specs.Meeting.{HaveAllGone}
 use Rattle.geos_rows.specs.Weakest.{Weakens}
 use Rattle.geos_rows.specs.Why.{AreApart}
-use Rattle.geos_causes.specs.declared.apart.Apart.{Apart}
-use Rattle.geos_causes.specs.declared.apart.Coming.{Coming}
+use Rattle.geos_flow.specs.declared.apart.Apart.{Apart}
+use Rattle.geos_flow.specs.declared.apart.Coming.{Coming}
 use Rattle.geos_rows.proofs.Weakening.{all-weak}
 use Rattle.geos_rows.proofs.weakest.find_weakest.Goals as goal
 

@@ -2,7 +2,7 @@ use Rattle.std.proofs.Common.{◌+◌, ◌*◌}
 use Rattle.geos_potentials.specs.Demands.{left_in, StayWanted}
 use Rattle.geos_potentials.proofs.units.Units.carry.Given as goal
 
--- what was wanted at first still is
+-- what was required at first still is
 abbrev pub invariant-loop-pc : goal.invariant-loop-pc
 invariant-loop-pc l = StayWanted l.graph.arcs l.fn.self.pay l.self.pay
 

@@ -1,12 +1,10 @@
-//! Entry rows: which words a routine may be called with.
-//!
-//! docs/MODEL.md says when a run is admitted.
-#![tactic(auto)]
+//! Which words a routine may be called with.
 
 ghost use Rattle.std.specs.Prelude.{◌≡◌};
-ghost use Rattle.geos_entry.specs.Entry.{admits};
+ghost use Rattle.geos_verify.specs.Entry.{admits};
 
-use geos_verify::{Checked, within_bounds};
+use crate::checked::Checked;
+use crate::enough::within_bounds;
 
 /// Whether there is such a routine, it is public, and each word is within its entry bound.
 pub fn admits_words(checked: &Checked, routine: u16, words: &[u16; 8]) -> bool

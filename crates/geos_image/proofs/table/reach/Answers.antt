@@ -1,6 +1,6 @@
 use Rattle.std.proofs.Common.{◌≡◌, ◌-◌, ◌++◌, ℕ, replicate, ap, ◌∙◌, arith}
 use Rattle.std.specs.Vec.{vec_len}
-use Rattle.pc_tables.proofs.table.reach.Goals as goal
+use Rattle.geos_image.proofs.table.reach.Goals as goal
 
 pub returns-clause-items : goal.returns-clause-items
 returns-clause-items g c =

@@ -1,4 +1,4 @@
--- The same item everywhere, where none is written, and behind those that are.
+-- A list of items, filled up to a length with copies of one item.
 use Rattle.std.proofs.Common.{◌≡◌, ◌∙◌, ◌<◌, ◌≤◌, ℕ, zero, suc, ◌+◌, ◌-◌, List, [], ◌∷◌, ◌++◌, length, replicate, get_or, set, refl, sym, ap, arith}
 use Rattle.std.proofs.lemmas.List.{length-append, length-set, append_assoc, replicate-append-replicate, set-append_left, length-replicate}
 
@@ -12,7 +12,7 @@ module _ {A : Type 0} (x : A) where
   pub same-everywhere : (items : List A) (n pc : ℕ) → items ≡ [] → get_or (items ++ replicate n x) pc x ≡ x
   same-everywhere items n pc none = ap (λ (xs : List A). get_or (xs ++ replicate n x) pc x) none ∙ copy_at n pc
 
-  -- items, and behind them the same one up to so many
+  -- the items, then copies of x up to length n
   abbrev pub filled : ℕ → List A → List A
   filled n items = items ++ replicate (n - length items) x
 
@@ -33,7 +33,7 @@ module _ {A : Type 0} (x : A) where
       ap (λ (m : ℕ). set items pc y ++ replicate (n - m) x) (length-set items pc y)
       ∙ sym (set-append_left items (replicate (n - length items) x) pc y lt)
 
-  -- one more may be written behind them
+  -- the list with one more item in place of the first copy
   pub filled-push : (n : ℕ) (y : A) (items : List A) → length items < n → filled n (items ++ y ∷ []) ≡ set (filled n items) (length items) y
   filled-push n y items lt =
       let more : filled n (items ++ x ∷ []) ≡ filled n items = filled-reach n 1 items (items ++ x ∷ []) (omega arith) refl in

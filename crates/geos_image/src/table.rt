@@ -3,7 +3,7 @@
 ghost use Rattle.std.specs.Prelude.{◌≡◌, ◌<◌, ◌≤◌, ◌+◌, ◌-◌, ◌++◌, ℕ, length, replicate, slice_index_or, slice_set, IfOk};
 ghost use Rattle.std.specs.Vec.{vec_len, vec_capacity};
 
-use geos_image::MOST_INSTRS;
+use crate::legal::MOST_INSTRS;
 use std::alloc::{AllocError, Global};
 use std::marker::Model;
 
@@ -53,7 +53,7 @@ impl<T: Copy> Table<T> {
     pub fn lengths(&self)
         ensures { length self.now ≡ 4096 }
     {
-        // The invariant is known where a field is looked at.
+        // Reading a field makes its invariant known.
         let _items = &self.items;
     }
 
@@ -65,7 +65,7 @@ impl<T: Copy> Table<T> {
         *self.get(pc)
     }
 
-    /// The item at a pc, where it lies: for items of many bytes, of which little is looked at.
+    /// A reference to the item at a pc, for large items of which the caller needs only a part.
     pub fn get(&self, pc: u16) -> &T
         requires { pc < 4096 }
         ensures { (other : T) → result.now ≡ slice_index_or self.now pc other }

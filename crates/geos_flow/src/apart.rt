@@ -1,9 +1,9 @@
 //! Where ways of control meet with slots that differ.
 
 ghost use Rattle.std.specs.Prelude.{◌≡◌};
-ghost use Rattle.geos_causes.specs.Slots.{slots_agree};
+ghost use Rattle.geos_flow.specs.Slots.{slots_agree};
 
-use geos_flow::Edge;
+use crate::edge::Edge;
 use geos_image::{Row, SlotState};
 use geos_verify::slot_fits;
 

@@ -1,9 +1,9 @@
 use Rattle.std.proofs.Common.{◌≡◌, ◌-◌, ◌≤◌, List, length, set, ap, ◌∙◌, arith}
 use Rattle.std.specs.Vec.{vec_len}
-use Rattle.pc_tables.specs.declared.table.Table.TheInside.{Inside}
-use Rattle.pc_tables.proofs.Filled.{filled, longer, filled-reach, filled-set, filled-push}
-use Rattle.pc_tables.proofs.table.Table.set.Goals.{then-len-at, else-len-at}
-use Rattle.pc_tables.proofs.table.Table.set.Goals as goal
+use Rattle.geos_image.specs.declared.table.Table.TheInside.{Inside}
+use Rattle.geos_image.proofs.Filled.{filled, longer, filled-reach, filled-set, filled-push}
+use Rattle.geos_image.proofs.table.Table.set.Goals.{then-len-at, else-len-at}
+use Rattle.geos_image.proofs.table.Table.set.Goals as goal
 
 pub returns-then-at-len : goal.returns-then-at-len
 returns-then-at-len g c =

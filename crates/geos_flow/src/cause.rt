@@ -113,7 +113,8 @@ pub enum Cause {
     NumberDear(ByNumber),
     /// The search for numbers of steps was given up, as it took too long.
     GivenUp(BackWay),
-    /// There is no back edge, and some path takes more steps than the greatest potential, if LOOPs may go either way.
+    /// There is no back edge, and some path takes more steps than the greatest potential, if LOOPs may take both
+    /// edges.
     StepsMayPass,
     /// None of these was found. There is a back edge, and each cycle takes the edge to the target of a LOOP that may pay: on each path to that
     /// LOOP its counter is set.

@@ -1,6 +1,6 @@
 use Rattle.std.proofs.Common.{◌≡◌, ◌≤◌, ◌-◌, ◌++◌, replicate}
 use Rattle.std.specs.Vec.{vec_len, vec_capacity}
-use Rattle.pc_tables.proofs.table.reach.Given as goal
+use Rattle.geos_image.proofs.table.reach.Given as goal
 
 -- the item lies at each pc before this one that had none
 abbrev pub invariant-loop : goal.invariant-loop
