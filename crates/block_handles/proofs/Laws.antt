@@ -185,7 +185,7 @@ module _ (store : Store) (i : ℕ) where
   pub with_block-other : (block : Option Block) (place j : ℕ) → j ≢ i → block_at (with_block store i block place) j ≡ block_at store j
   with_block-other block place j ne = get_or-set_other store.blocks i j block None ne
 
-  -- a lock changes one count alone
+  -- a lock changes only one lock count
   pub with_locks-same : (n : ℕ) → i < slot_count store → block_at (with_locks store i n) i ≡ block_with_locks store i n
   with_locks-same n small = get_or-set_same store.blocks i (block_with_locks store i n) None small
 

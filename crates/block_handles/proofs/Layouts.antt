@@ -3,7 +3,8 @@ use Rattle.std.proofs.Common.{◌≡◌, ◌≢◌, ℕ, zero, suc, ◌+◌, ◌
 use Rattle.std.proofs.lemmas.List.{length-set, get_or-set_same, get_or-set_other}
 use Rattle.std.proofs.lemmas.Bool.{cases_eq, cases_lt}
 use Rattle.block_handles.specs.Store.{Block, Store, block_at, bytes_in, IsBlock, IsThere, size_of, locks_in, locks_of, place_of, end_of, slot_count}
-use Rattle.block_handles.specs.Change.{with_block, with_most, with_place, with_locks, block_with_locks}
+use Rattle.block_handles.specs.declared.arena.Limits.{Limits}
+use Rattle.block_handles.specs.Change.{with_block, with_limits, with_place, with_locks, block_with_locks}
 use Rattle.block_handles.specs.Layout.{Apart, IsFree, IsFreeBut, IsLaidOut}
 use Rattle.geos_terms.specs.Heap.{IsBlockSize}
 use Rattle.block_handles.specs.View.{IsIndexed}
@@ -38,7 +39,7 @@ no_locks (Some b) h = absurd (h tt)
 pub locks_of_none : (S : Store) (j : ℕ) → (IsThere S j → ⊥) → locks_of S j ≡ 0
 locks_of_none S j h = no_locks (block_at S j) h
 
--- two stores differ in one slot alone, where the second has n bytes at p
+-- two stores differ in only one slot, in which the second has n bytes at p
 pub record Differs (S S' : Store) (i n p : ℕ) : Type 0 where
   pub size : size_of S' i ≡ n
   pub place : place_of S' i ≡ p
@@ -132,8 +133,8 @@ laid-differs S S' i n p d laid fits free legal none = record {
     both j k nj nk (inr h) = inr (omega (arith, h, d.sizes k nk, d.places j nj, d.places k nk))
 
 -- a limit moves no block
-pub laid-most : (S : Store) (most : ℕ) → IsLaidOut S → IsLaidOut (with_most S most)
-laid-most S most laid = record {
+pub laid-limits : (S : Store) (limits : Limits) → IsLaidOut S → IsLaidOut (with_limits S limits)
+laid-limits S limits laid = record {
   slots = laid.slots;
   spots = laid.spots;
   within = laid.within;

@@ -221,7 +221,7 @@ total-below : (n : ℕ) (f g : ℕ → ℕ) → ((j : ℕ) → j < n → f j ≡
 total-below zero f g h = refl
 total-below (suc n) f g h = omega (arith, h n (omega arith), total-below n f g (λ j lt. h j (omega (arith, lt))))
 
--- what is said of a handle, at the slot of the file's block, and 0 at those of global memory
+-- the function on slots that has a handle's value at the slot of the file's block, and 0 at slots of global memory
 abbrev pub at_slots : (ℕ → ℕ) → ℕ → ℕ
 at_slots wanted slot = if nat_le 1024 slot then wanted (slot - 1023) else 0
 
@@ -265,7 +265,7 @@ module _ (S : Store) (laid : IsLaidOut S) (wanted : ℕ → ℕ) where
   locked-sum each = total-below (slot_count S) (vm_locks_at S) (at_slots wanted)
       (by-handles (λ a b. a ≡ b) refl (λ k is. locks-at k is ∙ each k is ∙ sym (wanted-at k is)))
 
--- sums of what is said of handles
+-- sums of the values at handles
 
 at-low : (wanted : ℕ → ℕ) (j : ℕ) → j < 1024 → at_slots wanted j ≡ 0
 at-low wanted j low = let test : nat_le 1024 j ≡ false = false_from_ne_true (nat_le 1024 j) (λ t. omega (arith, leb-true 1024 j t, low)) in
@@ -287,7 +287,7 @@ wanted-both n f g both e = total-both n (at_slots f) (at_slots g) (at_slots both
       | inr high ↦ omega (arith, at-high f j high, at-high g j high, at-high both j high, e (j - 1023))
     ])
 
--- what is 1 at one handle alone
+-- the sum is 1 if the value is 1 at one handle, and 0 at every other
 pub wanted-once : (n k : ℕ) (f : ℕ → ℕ) → n ≡ 2048 → IsHandle k → f k ≡ 1 → ((h : ℕ) → h ≢ k → f h ≡ 0) → total n (at_slots f) ≡ 1
 wanted-once n k f long handle here others =
     let at : 1023 + k - 1023 ≡ k = omega arith in

@@ -166,7 +166,7 @@ pub record IsPackingUp (old now : Store) (from until at scan : ℕ) : Type 0 whe
       × (locks_of old j ≡ 0) × (at ≤ place_of now j) × (end_of now j ≤ until))
 
 module _ (old S : Store) (from until at scan x : ℕ) (w : IsPackingUp old S from until at scan) (last : IsLast S from scan x) where
-  -- every other block begins behind, or ends before it
+  -- every other block begins at or after the scan, or ends before this block
   passed-up : (j : ℕ) → j ≢ x → (scan ≤ place_of S j) ⊎ (end_of S j ≤ place_of S x)
   passed-up j ne = elim (cases_lt (place_of S j) scan) as (λ _. (scan ≤ place_of S j) ⊎ (end_of S j ≤ place_of S x)) [
     | inr ge ↦ inl ge
@@ -189,7 +189,7 @@ module _ (old S : Store) (from until at scan x : ℕ) (w : IsPackingUp old S fro
       by (inr (inl q)) = absurd (omega (arith, q, last.high, last.there))
       by (inr (inr q)) = (q.1, q.2)
 
-  -- no block has bytes both behind the scan and before it
+  -- no block has bytes both before and after the scan
   nowhere : (j : ℕ) → scan ≤ place_of S j → end_of S j ≤ scan → ⊥
   nowhere j p q = let z : size_of S j ≡ 0 = omega arith in absurd (omega (arith, p, w.laid.none j z, last.low))
 

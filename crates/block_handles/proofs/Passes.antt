@@ -144,7 +144,7 @@ module _ (S : Store) (laid : IsLaidOut S) (but : ℕ) where
             near j (inl q) = inl q
             near j (inr q) = inr (omega (arith, q))
 
-  -- no block begins behind those that are passed
+  -- no block begins after those that the scan has passed
   module _ (from scan taken : ℕ) (w : HasPassed S but from scan taken) (none : BeginsNone S scan S.len.region) where
     pub ended : (j : ℕ) → end_of S j ≤ scan
     ended j = by (w.edge j)

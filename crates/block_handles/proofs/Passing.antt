@@ -54,7 +54,7 @@ only_same S S' a b c d f g j e to back = elim (cases_lt (place_of S j) a) as (λ
     ]
 
 module _ (S : Store) (laid : IsLaidOut S) (scan until x : ℕ) (first : IsFirst S scan until x) (edge : IsEdge S scan) where
-  -- every other block ends before, or begins behind it
+  -- every other block ends before this block, or begins after it
   pub passed : (j : ℕ) → j ≢ x → (end_of S j ≤ scan) ⊎ (end_of S x ≤ place_of S j)
   passed j ne = by_edge (edge j)
     where
@@ -83,7 +83,7 @@ module _ (S : Store) (laid : IsLaidOut S) (scan until x : ℕ) (first : IsFirst 
   small = omega (arith, laid.slots, there_small S x laid (there_of_size S x first.there))
 
   module _ (from : ℕ) (f : ℕ → ℕ) (low : from ≤ scan) where
-    -- a block that begins behind it lies in neither range
+    -- a block that begins after it lies in neither range
     behind : (j : ℕ) → end_of S x ≤ place_of S j → end_of S x < end_of S j
     behind j q = elim (cases_lt 0 (size_of S j)) as (λ _. end_of S x < end_of S j) [
       | inl some ↦ omega (arith, q, some)

@@ -14,7 +14,7 @@ use Rattle.block_handles.specs.Used.{IsUsed, IsFreeCount, IsKept, IsLockSum}
 use Rattle.block_handles.specs.Layout.{Apart, IsEmpty, IsLaidOut, IsFree, IsFreeBut}
 use Rattle.block_handles.specs.Packing.{IsEdge}
 use Rattle.block_handles.specs.Stretch.{all_sizes}
-use Rattle.block_handles.proofs.Layouts.{Differs, with_block-differs, there_small, there_of_size, locks_of_none, size_of_none, with_locks-shape, SameShape, laid-most, laid-same, free-same}
+use Rattle.block_handles.proofs.Layouts.{Differs, with_block-differs, there_small, there_of_size, locks_of_none, size_of_none, with_locks-shape, SameShape, laid-limits, laid-same, free-same}
 use Rattle.block_handles.proofs.Counting.{sizes-same, sizes-with_block}
 use Rattle.block_handles.proofs.LockSums.{after_write-locks, lock-sum-same, lock-sum-with_block, with_bytes-locks}
 use Rattle.block_handles.proofs.Packs.{size_along}
@@ -91,7 +91,7 @@ kept-bytes {free} {held} S gap words slot ws k =
     kept-same S W gap words (with_bytes-shape S slot ws) (lock-sum-same S W held (with_bytes-shape S slot ws).slots
     (with_bytes-locks S slot ws) k.locked) k
 
--- a slot gets a block, or loses it, and the bit says so
+-- a slot gets a block, or loses it, and its bit is set or cleared
 pub used-with_block : (S S' : Store) (words words' : List ℕ) (slot : ℕ) (b : Option Block) (p bit : ℕ) → slot < 2048
     → IsLaidOut S → S' ≡ with_block S slot b p → SetsBit words words' slot bit → (bit ≡ 1 → IsBlock b)
     → (bit ≡ 0 → IsBlock b → ⊥) → IsUsed S words → IsUsed S' words'
@@ -180,7 +180,7 @@ count-taken S S' free more count sizes len fits = record {
   short = omega (arith, count.short, ap (λ l. l.region) len);
 }
 
--- the gap behind a block that has moved into it
+-- the gap that follows a block which has moved into it
 ready-grown_block : (old mid new : Store) (slot size : ℕ) (gap : Gap) → MakesRoom old mid slot size gap → IsThere old slot
     → size_of old slot ≤ size → new ≡ with_block mid slot (grown_block mid slot size) gap.at → IsLaidOut new
     → IsReady new (record { at = gap.at + size; end = gap.end })
@@ -316,7 +316,7 @@ module _ (S : Store) (slot : ℕ) (laid : IsLaidOut S) (there : IsThere S slot) 
   gone : Differs S F slot 0 0
   gone = with_block-differs S slot None 0 laid (there_small S slot laid there)
 
-  -- what is free but for the block is free without it
+  -- what is free except for the block is free once the block is gone
   freed-range : (a b : ℕ) → ((j : ℕ) → j ≢ slot → (end_of S j ≤ a) ⊎ (b ≤ place_of S j)) → IsFree F a b
   freed-range a b h j = elim (cases_eq j slot) as (λ _. (end_of F j ≤ a) ⊎ (b ≤ place_of F j)) [
     | inl q ↦ inl (omega (arith, ap (end_of F) q, gone.size, gone.place))
@@ -331,7 +331,7 @@ module _ (S : Store) (slot : ℕ) (laid : IsLaidOut S) (there : IsThere S slot) 
   nowhere : (a b j : ℕ) → size_of S j ≡ 0 → (end_of S j ≤ a) ⊎ (b ≤ place_of S j)
   nowhere a b j z = inl (omega (arith, z, laid.none j z))
 
-  -- what is free is so with the block that lies right before it, but for that
+  -- a free range together with the block directly before it is free except for this block
   before : (gap : Gap) (place end : ℕ) → place ≡ place_of S slot → end ≡ end_of S slot → end ≡ gap.at → IsFree S gap.at gap.end
       → IsFreeBut S slot place gap.end
   before gap place end ep ee meets free j ne = by (free j) (laid.apart j slot ne)
@@ -435,7 +435,7 @@ pub kept-limited : (S : Store) (gap : Gap) (words : List ℕ) (free held more : 
     → more + all_sizes S ≤ region_len S → IsKept (with_most S (more + all_sizes S)) gap words more held
 kept-limited S gap words free held more k fits = record {
   ready = record {
-    laid = laid-most S (more + all_sizes S) k.ready.laid;
+    laid = laid-limits S (record { most = more + all_sizes S; handles = S.len.handles }) k.ready.laid;
     room = record { ordered = k.ready.room.ordered; inside = k.ready.room.inside; free = k.ready.room.free };
   };
   used = record { long = k.used.long; there = k.used.there; none = k.used.none };

@@ -23,7 +23,7 @@ none_sized : (b : Option Block) → (IsBlock b → ⊥) → length (bytes_in b) 
 none_sized None h = refl
 none_sized (Some b) h = absurd (h tt)
 
--- locked blocks stay where packing moves unlocked ones alone
+-- locked blocks stay if packing moves only unlocked blocks
 moves-stay : (old new : Store) (but from until low high : ℕ) → Moves old new from until low high → LockedStay old new but
 moves-stay old new but from until low high m j ne locked = by (m.moved j)
   where

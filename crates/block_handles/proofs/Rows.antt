@@ -36,7 +36,7 @@ pub row-set : (rows : List Row) (i : ℕ) (row : Row) (o : Option Entry) → ent
     → entries_in (slice_set rows i row) ≡ slice_set (entries_in rows) i o
 row-set rows i row o is = map-set entry_in rows i row ∙ ap (slice_set (entries_in rows) i) is
 
--- a slot that is in use stands in the table
+-- a slot that is in use is within the table
 pub entry-within : (seen : List (Option Entry)) (i : ℕ) → IsEntry (slice_index_or seen i None) → i < length seen
 entry-within [] i h = absurd h
 entry-within (o ∷ seen) zero h = omega arith

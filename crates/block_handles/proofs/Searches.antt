@@ -4,22 +4,23 @@ use Rattle.std.proofs.lemmas.List.{get_or_read, length-map, length-replicate}
 use Rattle.std.proofs.lemmas.Bool.{cases_eq, cases_lt}
 use Rattle.block_handles.specs.declared.table.Entry.{Entry}
 use Rattle.block_handles.specs.Store.{Store, block_at, bytes_in, IsBlock, size_of, place_of}
-use Rattle.block_handles.specs.Change.{with_most}
+use Rattle.block_handles.specs.declared.arena.Limits.{Limits}
+use Rattle.block_handles.specs.Change.{with_limits}
 use Rattle.block_handles.specs.Layout.{IsLaidOut, IsEmpty}
 use Rattle.block_handles.specs.Search.{IsFirst, IsLast}
 use Rattle.block_handles.specs.Rows.{IsEntry}
 use Rattle.block_handles.specs.View.{block_in, store_in, place_in, Lies, IsSound}
 use Rattle.block_handles.proofs.Views.{at_slot, place_slot, entry_there, place_there}
-use Rattle.block_handles.proofs.Layouts.{laid-most, there_of_size}
+use Rattle.block_handles.proofs.Layouts.{laid-limits, there_of_size}
 
 same_slot : (i j : ℕ) → Some i ≡ Some j → i ≡ j
 same_slot i j e = cc
 
-module _ (most : ℕ) (region : List ℕ) (table : List (Option Entry)) (index : List (Option ℕ)) (seen : Store)
-    (view : with_most (store_in region table) most ≡ seen) (sound : IsSound region table index) (g slot until : ℕ) (x : Option ℕ)
+module _ (limits : Limits) (region : List ℕ) (table : List (Option Entry)) (index : List (Option ℕ)) (seen : Store)
+    (view : with_limits (store_in region table) limits ≡ seen) (sound : IsSound region table index) (g slot until : ℕ) (x : Option ℕ)
     (small : g < until / 64 + 1) (inside : until ≤ seen.len.region) (read : x ≡ slice_index_or index g x) (is : x ≡ Some slot) where
   abbrev S : Store
-  S = with_most (store_in region table) most
+  S = with_limits (store_in region table) limits
 
   at_granule : slice_index_or index g None ≡ Some slot
   at_granule =
@@ -129,5 +130,5 @@ module _ (region : List ℕ) (table : List (Option Entry)) (index : List (Option
       not-some : (j : ℕ) → None ≡ Some j → ⊥
       not-some j e = cc
 
-  pub empty_seen : IsEmpty (with_most E len) len
-  empty_seen = record { none = free-slot; long = λ k. record { region = is-long k; most = len }; laid = laid-most E len empty_laid }
+  pub empty_seen : IsEmpty (with_limits E (record { most = len; handles = 1024 })) len
+  empty_seen = record { none = free-slot; long = λ k. record { region = is-long k; most = len; handles = 1024 }; laid = laid-limits E (record { most = len; handles = 1024 }) empty_laid }

@@ -6,13 +6,14 @@ use Rattle.lmem_raw.specs.Bytes.{part, with_part}
 use Rattle.lmem_raw.proofs.Parts.{length-with_part, part-same}
 use Rattle.block_handles.specs.declared.table.Entry.{Entry}
 use Rattle.block_handles.specs.Store.{Block, Store, bytes_of, locks_in, locks_of, IsBlock, IsThere, size_of, place_of}
-use Rattle.block_handles.specs.Change.{with_block, new_block, grown_block, with_locks, with_lock_less, with_lock_more, with_most, block_with_locks}
+use Rattle.block_handles.specs.declared.arena.Limits.{Limits}
+use Rattle.block_handles.specs.Change.{with_block, new_block, grown_block, with_locks, with_lock_less, with_lock_more, with_limits, block_with_locks}
 use Rattle.block_handles.specs.Layout.{IsLaidOut, IsFreeBut}
 use Rattle.geos_terms.specs.Heap.{IsBlockSize}
 use Rattle.block_handles.specs.Rows.{HasSize, IsEntry, IsLocked}
 use Rattle.block_handles.specs.View.{block_in, store_in, place_in, Lies, IsSound, IsIndexed}
 use Rattle.block_handles.proofs.Views.{OffEntry, entry_there, off_slot, off_same, off_less, store-set, part-two, block_there, bytes_there, place_there, lies_there, size_there, lies_set, length-part}
-use Rattle.block_handles.proofs.Layouts.{with_locks-shape, laid-most, Differs, with_block-differs, laid-differs, laid-gone, SameShape, laid-same, indexed-same, size_of_none, there_of_locks, there_small}
+use Rattle.block_handles.proofs.Layouts.{with_locks-shape, laid-limits, Differs, with_block-differs, laid-differs, laid-gone, SameShape, laid-same, indexed-same, size_of_none, there_of_locks, there_small}
 use Rattle.block_handles.proofs.Indexing.{indexed-freed, indexed-put}
 
 pub record Step (region : List ℕ) (table : List (Option Entry)) (index : List (Option ℕ)) (S : Store) : Type 0 where
@@ -20,17 +21,17 @@ pub record Step (region : List ℕ) (table : List (Option Entry)) (index : List 
   pub is : store_in region table ≡ S
 
 -- the same, where blocks may have so many bytes
-pub record Stands (most : ℕ) (region : List ℕ) (table : List (Option Entry)) (index : List (Option ℕ)) (S : Store) : Type 0 where
+pub record Stands (limits : Limits) (region : List ℕ) (table : List (Option Entry)) (index : List (Option ℕ)) (S : Store) : Type 0 where
   pub sound : IsSound region table index
-  pub laid : IsLaidOut (with_most (store_in region table) most)
-  pub is : with_most (store_in region table) most ≡ S
+  pub laid : IsLaidOut (with_limits (store_in region table) limits)
+  pub is : with_limits (store_in region table) limits ≡ S
 
-pub limited : (most : ℕ) (region : List ℕ) (table : List (Option Entry)) (index : List (Option ℕ)) (S : Store) → Step region table index S
-    → Stands most region table index (with_most S most)
-limited most region table index S step = record {
+pub limited : (limits : Limits) (region : List ℕ) (table : List (Option Entry)) (index : List (Option ℕ)) (S : Store) → Step region table index S
+    → Stands limits region table index (with_limits S limits)
+limited limits region table index S step = record {
   sound = step.sound;
-  laid = laid-most (store_in region table) most step.sound.laid;
-  is = ap (λ s. with_most s most) step.is;
+  laid = laid-limits (store_in region table) limits step.sound.laid;
+  is = ap (λ s. with_limits s limits) step.is;
 }
 
 module _ (region : List ℕ) (table : List (Option Entry)) (index : List (Option ℕ)) (sound : IsSound region table index) (i : ℕ) where
@@ -186,20 +187,20 @@ module _ (region : List ℕ) (table : List (Option Entry)) (index : List (Option
         record { sound = done.sound; is = done.is ∙ same }
 
 -- the same over the store that callers see
-module _ (most : ℕ) (region : List ℕ) (table : List (Option Entry)) (index : List (Option ℕ)) (seen : Store)
-    (view : with_most (store_in region table) most ≡ seen) (sound : IsSound region table index) (i : ℕ) where
+module _ (limits : Limits) (region : List ℕ) (table : List (Option Entry)) (index : List (Option ℕ)) (seen : Store)
+    (view : with_limits (store_in region table) limits ≡ seen) (sound : IsSound region table index) (i : ℕ) where
   pub create_seen : (at size : ℕ) → (i < 2048) × (IsThere seen i → ⊥) → IsBlockSize size → at + size ≤ seen.len.region
       → IsFreeBut seen i at (at + size) → (region' : List ℕ) → region' ≡ with_part region at (replicate size 0)
-      → Stands most region' (slice_set table i (Some (record { place = at; size = size; locks = 0 }))) (slice_set index (at / 64) (Some i))
+      → Stands limits region' (slice_set table i (Some (record { place = at; size = size; locks = 0 }))) (slice_set index (at / 64) (Some i))
       (with_block seen i (new_block size) at)
   create_seen at size slot legal room free region' eq =
       subst (λ s. (i < 2048) × (IsThere s i → ⊥) → at + size ≤ s.len.region → IsFreeBut s i at (at + size)
-      → Stands most region' (slice_set table i (Some (record { place = at; size = size; locks = 0 })))
+      → Stands limits region' (slice_set table i (Some (record { place = at; size = size; locks = 0 })))
       (slice_set index (at / 64) (Some i)) (with_block s i (new_block size) at))
-      view (λ slot room free. limited most region' _ _ _ (create-step region table index sound i at size slot.0 slot.1 legal room free region' eq))
+      view (λ slot room free. limited limits region' _ _ _ (create-step region table index sound i at size slot.0 slot.1 legal room free region' eq))
       slot room free
 
-  -- the granule of an offset stands in the index
+  -- the granule of an offset is within the index
   pub granule_seen : (at : ℕ) → at ≤ seen.len.region → at / 64 < length index
   granule_seen at low = omega (arith, low, sound.indexed.long, ap (λ s. s.len.region) view)
 
@@ -213,14 +214,14 @@ module _ (most : ℕ) (region : List ℕ) (table : List (Option Entry)) (index :
     pub lies_seen : e.place + e.size ≤ seen.len.region
     lies_seen = omega (arith, in-region region table index sound i e is, ap (λ s. s.len.region) view)
 
-    pub remove_seen : Stands most region (slice_set table i None) (slice_set index (e.place / 64) None) (with_block seen i None 0)
-    remove_seen = subst (λ s. Stands most region (slice_set table i None) (slice_set index (e.place / 64) None) (with_block s i None 0)) view
-        (limited most region _ _ _ (remove-step region table index sound i e is))
+    pub remove_seen : Stands limits region (slice_set table i None) (slice_set index (e.place / 64) None) (with_block seen i None 0)
+    remove_seen = subst (λ s. Stands limits region (slice_set table i None) (slice_set index (e.place / 64) None) (with_block s i None 0)) view
+        (limited limits region _ _ _ (remove-step region table index sound i e is))
 
-    pub locks_seen : (n : ℕ) → Stands most region (slice_set table i (Some (record { place = e.place; size = e.size; locks = n }))) index
+    pub locks_seen : (n : ℕ) → Stands limits region (slice_set table i (Some (record { place = e.place; size = e.size; locks = n }))) index
         (with_locks seen i n)
-    locks_seen n = subst (λ s. Stands most region (slice_set table i (Some (record { place = e.place; size = e.size; locks = n }))) index (with_locks s i n))
-        view (limited most region _ _ _ (locks-step region table index sound i e is n))
+    locks_seen n = subst (λ s. Stands limits region (slice_set table i (Some (record { place = e.place; size = e.size; locks = n }))) index (with_locks s i n))
+        view (limited limits region _ _ _ (locks-step region table index sound i e is n))
 
     pub size_seen : e.size ≡ size_of seen i
     size_seen = subst (λ s. e.size ≡ size_of s i) view (sym (size-is region table index sound i e is))
@@ -228,26 +229,26 @@ module _ (most : ℕ) (region : List ℕ) (table : List (Option Entry)) (index :
     pub relocate_seen : (to size : ℕ) → (size_of seen i ≤ size) × (size ≤ 65520) × (size % 16 ≡ 0) → to + size ≤ seen.len.region
         → IsFreeBut seen i to (to + size) → (region' : List ℕ) → region' ≡ with_part (with_part region to (part region e.place e.size))
         (to + e.size) (replicate (size - e.size) 0)
-        → Stands most region' (slice_set table i (Some (record { place = to; size = size; locks = e.locks })))
+        → Stands limits region' (slice_set table i (Some (record { place = to; size = size; locks = e.locks })))
         (slice_set (slice_set index (e.place / 64) None) (to / 64) (Some i)) (with_block seen i (grown_block seen i size) to)
     relocate_seen to size legal room free region' eq =
         subst (λ s. (size_of s i ≤ size) × (size ≤ 65520) × (size % 16 ≡ 0) → to + size ≤ s.len.region → IsFreeBut s i to (to + size)
-        → Stands most region' (slice_set table i (Some (record { place = to; size = size; locks = e.locks })))
+        → Stands limits region' (slice_set table i (Some (record { place = to; size = size; locks = e.locks })))
         (slice_set (slice_set index (e.place / 64) None) (to / 64) (Some i)) (with_block s i (grown_block s i size) to))
-        view (λ legal room free. limited most region' _ _ _
+        view (λ legal room free. limited limits region' _ _ _
         (relocate-step region table index sound i e is to size legal.0 legal.1 legal.2 room free region' eq)) legal room free
 
-    -- the same where the place and the size alone were written
+    -- the same if only the place and the size were written
     pub relocate_put : (to size : ℕ) → (size_of seen i ≤ size) × (size ≤ 65520) × (size % 16 ≡ 0) → to + size ≤ seen.len.region
         → IsFreeBut seen i to (to + size) → (region' : List ℕ) → region' ≡ with_part (with_part region to (part region e.place e.size))
         (to + e.size) (replicate (size - e.size) 0)
         → (after : List (Option Entry))
         → IfSome (slice_index_or table i None) (λ x. after ≡ slice_set table i (Some (record x { place = to; size = size })))
-        → Stands most region' after (slice_set (slice_set index (e.place / 64) None) (to / 64) (Some i)) (with_block seen i (grown_block seen i size) to)
+        → Stands limits region' after (slice_set (slice_set index (e.place / 64) None) (to / 64) (Some i)) (with_block seen i (grown_block seen i size) to)
     relocate_put to size legal room free region' eq after put =
         let same : after ≡ slice_set table i (Some (record { place = to; size = size; locks = e.locks })) =
         subst (λ o. IfSome o (λ x. after ≡ slice_set table i (Some (record x { place = to; size = size })))) is put in
-        subst (λ t. Stands most region' t (slice_set (slice_set index (e.place / 64) None) (to / 64) (Some i))
+        subst (λ t. Stands limits region' t (slice_set (slice_set index (e.place / 64) None) (to / 64) (Some i))
         (with_block seen i (grown_block seen i size) to)) (sym same) (relocate_seen to size legal room free region' eq)
 
     pub count_seen : locks_of seen i ≡ e.locks
@@ -256,19 +257,19 @@ module _ (most : ℕ) (region : List ℕ) (table : List (Option Entry)) (index :
     pub there_seen : IsThere seen i
     there_seen = subst (λ s. IsThere s i) view (is-there region table index sound i e is)
 
--- what is left of a lock that was asked for
-pub record Locks (most : ℕ) (region : List ℕ) (index : List (Option ℕ)) (seen : Store) (i : ℕ) (after : List (Option Entry)) (took : Bool) : Type 0 where
+-- the state after a request for a lock
+pub record Locks (limits : Limits) (region : List ℕ) (index : List (Option ℕ)) (seen : Store) (i : ℕ) (after : List (Option Entry)) (took : Bool) : Type 0 where
   pub sound : IsSound region after index
-  pub taken : IsTrue took → IsThere seen i × (locks_of seen i < 65535) × (with_most (store_in region after) most ≡ with_lock_more seen i)
+  pub taken : IsTrue took → IsThere seen i × (locks_of seen i < 65535) × (with_limits (store_in region after) limits ≡ with_lock_more seen i)
   pub refused : IsFalse took → IsThere seen i → locks_of seen i ≡ 65535
-  pub same : IsFalse took → with_most (store_in region after) most ≡ seen
+  pub same : IsFalse took → with_limits (store_in region after) limits ≡ seen
 
 apart : true ≡ false → ⊥
 apart e = cc
 
 -- locks of the block in a slot
-module _ (most : ℕ) (region : List ℕ) (table : List (Option Entry)) (index : List (Option ℕ)) (seen : Store)
-    (view : with_most (store_in region table) most ≡ seen) (sound : IsSound region table index) (i : ℕ) where
+module _ (limits : Limits) (region : List ℕ) (table : List (Option Entry)) (index : List (Option ℕ)) (seen : Store)
+    (view : with_limits (store_in region table) limits ≡ seen) (sound : IsSound region table index) (i : ℕ) where
   pub small_seen : IsThere seen i → i < 2048
   small_seen there = there_small (store_in region table) i sound.laid (subst (λ s. IsThere s i) (sym view) there)
 
@@ -280,58 +281,58 @@ module _ (most : ℕ) (region : List ℕ) (table : List (Option Entry)) (index :
       go (Some e) is = omega (arith, size-is region table index sound i e is, some-bytes region table index sound i e is)
 
   pub locked_seen : 0 < locks_of seen i → IsLocked (slice_index_or table i None)
-  locked_seen some = go (slice_index_or table i None) refl (entry_seen most region table index seen view sound i (there_of_locks seen i some))
+  locked_seen some = go (slice_index_or table i None) refl (entry_seen limits region table index seen view sound i (there_of_locks seen i some))
     where
       go : (o : Option Entry) → slice_index_or table i None ≡ o → IsEntry o → IsLocked o
       go None is h = h
-      go (Some e) is h = omega (arith, some, count_seen most region table index seen view sound i e is)
+      go (Some e) is h = omega (arith, some, count_seen limits region table index seen view sound i e is)
 
-  -- the entry's number alone was written
+  -- only the entry's lock count was written
   counted : (e : Entry) → slice_index_or table i None ≡ Some e → (n m : ℕ) → n ≡ m → (after : List (Option Entry))
-      → after ≡ slice_set table i (Some (record e { locks = n })) → Stands most region after index (with_locks seen i m)
-  counted e is n m same after put = subst (λ t. Stands most region t index (with_locks seen i m)) (sym put)
-      (subst (λ k. Stands most region (slice_set table i (Some (record e { locks = n }))) index (with_locks seen i k)) same
-      (locks_seen most region table index seen view sound i e is n))
+      → after ≡ slice_set table i (Some (record e { locks = n })) → Stands limits region after index (with_locks seen i m)
+  counted e is n m same after put = subst (λ t. Stands limits region t index (with_locks seen i m)) (sym put)
+      (subst (λ k. Stands limits region (slice_set table i (Some (record e { locks = n }))) index (with_locks seen i k)) same
+      (locks_seen limits region table index seen view sound i e is n))
 
   pub unlock_put : 0 < locks_of seen i → (after : List (Option Entry))
       → IfSome (slice_index_or table i None) (λ e. after ≡ slice_set table i (Some (record e { locks = e.locks - 1 })))
-      → Stands most region after index (with_lock_less seen i)
+      → Stands limits region after index (with_lock_less seen i)
   unlock_put some after put = go (slice_index_or table i None) refl (locked_seen some) put
     where
       go : (o : Option Entry) → slice_index_or table i None ≡ o → IsLocked o
-          → IfSome o (λ e. after ≡ slice_set table i (Some (record e { locks = e.locks - 1 }))) → Stands most region after index (with_lock_less seen i)
+          → IfSome o (λ e. after ≡ slice_set table i (Some (record e { locks = e.locks - 1 }))) → Stands limits region after index (with_lock_less seen i)
       go None is h put = absurd h
       go (Some e) is h put = counted e is (e.locks - 1) (locks_of seen i - 1)
-          (omega (arith, count_seen most region table index seen view sound i e is)) after put
+          (omega (arith, count_seen limits region table index seen view sound i e is)) after put
 
   pub lock_put : (after : List (Option Entry)) (took : Bool)
       → (IsTrue took → IsSomeAnd (slice_index_or table i None)
       (λ e. (e.locks < 65535) × (after ≡ slice_set table i (Some (record e { locks = e.locks + 1 })))))
       → (IsFalse took → IfSome (slice_index_or table i None) (λ e. e.locks ≡ 65535)) → (IsFalse took → after ≡ table)
-      → Locks most region index seen i after took
+      → Locks limits region index seen i after took
   lock_put after true taken refused same = go (slice_index_or table i None) refl (taken refl)
     where
       go : (o : Option Entry) → slice_index_or table i None ≡ o
           → IsSomeAnd o (λ e. (e.locks < 65535) × (after ≡ slice_set table i (Some (record e { locks = e.locks + 1 }))))
-          → Locks most region index seen i after true
+          → Locks limits region index seen i after true
       go None is h = absurd h
       go (Some e) is h =
-          let count : locks_of seen i ≡ e.locks = count_seen most region table index seen view sound i e is in
-          let done : Stands most region after index (with_lock_more seen i) =
+          let count : locks_of seen i ≡ e.locks = count_seen limits region table index seen view sound i e is in
+          let done : Stands limits region after index (with_lock_more seen i) =
           counted e is (e.locks + 1) (locks_of seen i + 1) (omega (arith, count)) after h.1 in
           record {
             sound = done.sound;
-            taken = λ _. (there_seen most region table index seen view sound i e is, omega (arith, count, h.0), done.is);
+            taken = λ _. (there_seen limits region table index seen view sound i e is, omega (arith, count, h.0), done.is);
             refused = λ f. absurd (apart f);
             same = λ f. absurd (apart f);
           }
   lock_put after false taken refused same = record {
     sound = subst (λ t. IsSound region t index) (sym (same refl)) sound;
     taken = λ f. absurd (apart (sym f));
-    refused = λ _ there. full (slice_index_or table i None) refl (entry_seen most region table index seen view sound i there) (refused refl);
-    same = λ _. ap (λ t. with_most (store_in region t) most) (same refl) ∙ view;
+    refused = λ _ there. full (slice_index_or table i None) refl (entry_seen limits region table index seen view sound i there) (refused refl);
+    same = λ _. ap (λ t. with_limits (store_in region t) limits) (same refl) ∙ view;
   }
     where
       full : (o : Option Entry) → slice_index_or table i None ≡ o → IsEntry o → IfSome o (λ e. e.locks ≡ 65535) → locks_of seen i ≡ 65535
       full None is h top = absurd h
-      full (Some e) is h top = count_seen most region table index seen view sound i e is ∙ top
+      full (Some e) is h top = count_seen limits region table index seen view sound i e is ∙ top

@@ -17,7 +17,7 @@ pub total-both : (n : ℕ) (f g h : ℕ → ℕ) → ((j : ℕ) → f j + g j �
 total-both zero f g h e = refl
 total-both (suc n) f g h e = omega (arith, e n, total-both n f g h e)
 
--- where two functions differ at one number alone
+-- sums of two functions that differ at only one number
 pub total-one : (n : ℕ) (f g : ℕ → ℕ) (i : ℕ) → i < n → ((j : ℕ) → j ≢ i → f j ≡ g j) → total n f + g i ≡ total n g + f i
 total-one zero f g i small h = absurd (omega arith)
 total-one (suc n) f g i small h = elim (cases_eq i n) as (λ _. f n + total n f + g i ≡ g n + total n g + f i) [

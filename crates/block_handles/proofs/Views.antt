@@ -1,4 +1,4 @@
--- The store that a region and a table spell, and what a write or a new entry makes of it.
+-- The store that a region and a table encode, and its changes by a write or a new entry.
 use Rattle.std.proofs.Common.{◌≡◌, ◌≢◌, ℕ, zero, suc, map, ◌+◌, ◌≤◌, ◌⊎◌, List, [], ◌∷◌, ◌++◌, length, take, drop, Option, Some, None, slice_index_or, slice_set, refl, ap, sym, subst, ◌∙◌, arith, inl, inr, length-take, length-drop}
 use Rattle.std.proofs.lemmas.List.{map-set, drop-drop}
 use Rattle.std.proofs.Math.Seq.{take-add}

@@ -5,7 +5,8 @@ use Rattle.lmem_raw.specs.Bytes.{part, with_part}
 use Rattle.lmem_raw.proofs.Parts.{length-with_part}
 use Rattle.block_handles.specs.declared.table.Entry.{Entry}
 use Rattle.block_handles.specs.Store.{Block, Store, bytes_in, bytes_of, IsBlock, place_of, end_of}
-use Rattle.block_handles.specs.Change.{with_block, blocks_with_bytes, with_bytes, block_after_write, blocks_after_write, after_write, with_most}
+use Rattle.block_handles.specs.declared.arena.Limits.{Limits}
+use Rattle.block_handles.specs.Change.{with_block, blocks_with_bytes, with_bytes, block_after_write, blocks_after_write, after_write, with_limits}
 use Rattle.block_handles.specs.Layout.{IsLaidOut}
 use Rattle.block_handles.specs.Offsets.{Covers, ReadsAs}
 use Rattle.block_handles.specs.View.{block_in, store_in, place_in, Lies, IsSound, IsIndexed}
@@ -66,7 +67,7 @@ store-after_write region at ws table = λ k. record {
   blocks = each_landed region at ws table k;
   places =
       map place_in table;
-  len = let n = length-with_part region at ws k in record { region = n; most = n };
+  len = let n = length-with_part region at ws k in record { region = n; most = n; handles = 1024 };
 }
 
 block_after_write-size : (b : Option Block) (place at : ℕ) (ws : List ℕ) → length (bytes_in (block_after_write b place at ws)) ≡ length (bytes_in b)
@@ -230,7 +231,7 @@ module _ (region : List ℕ) (table : List (Option Entry)) (index : List (Option
           blocks = sym (blocks_with_bytes-set S.blocks i ws (record { locks = e.locks; bytes = part region e.place e.size })
               (block_there region table i e is)) k;
           places = spot k;
-          len = record { region = length region; most = length region };
+          len = record { region = length region; most = length region; handles = 1024 };
         })
 
     pub bytes-step : Step after table index (with_bytes S i ws)
@@ -265,16 +266,16 @@ module _ (region : List ℕ) (table : List (Option Entry)) (lies : (j : ℕ) →
       ∙ (λ k. slice_index (bytes_in (sym (at_slot region table j) k)) (at - sym (place_slot region table j) k))
 
 -- over the store that callers see
-module _ (most : ℕ) (region : List ℕ) (table : List (Option Entry)) (index : List (Option ℕ)) (seen : Store)
-    (view : with_most (store_in region table) most ≡ seen) (sound : IsSound region table index) where
-  pub written_seen : (at : ℕ) (ws : List ℕ) (region' : List ℕ) → region' ≡ with_part region at ws → Stands most region' table index (after_write seen at ws)
-  written_seen at ws region' e = subst (λ s. Stands most region' table index (after_write s at ws)) view
-      (limited most region' table index _ (after_write-step region table index sound at ws region' e))
+module _ (limits : Limits) (region : List ℕ) (table : List (Option Entry)) (index : List (Option ℕ)) (seen : Store)
+    (view : with_limits (store_in region table) limits ≡ seen) (sound : IsSound region table index) where
+  pub written_seen : (at : ℕ) (ws : List ℕ) (region' : List ℕ) → region' ≡ with_part region at ws → Stands limits region' table index (after_write seen at ws)
+  written_seen at ws region' e = subst (λ s. Stands limits region' table index (after_write s at ws)) view
+      (limited limits region' table index _ (after_write-step region table index sound at ws region' e))
 
   pub bytes_seen : (i : ℕ) (e : Entry) → slice_index_or table i None ≡ Some e → (ws : List ℕ)
-      → Stands most (with_part region e.place (take e.size ws)) table index (with_bytes seen i ws)
-  bytes_seen i e is ws = subst (λ s. Stands most (with_part region e.place (take e.size ws)) table index (with_bytes s i ws)) view
-      (limited most _ table index _ (bytes-step region table index sound i e is ws))
+      → Stands limits (with_part region e.place (take e.size ws)) table index (with_bytes seen i ws)
+  bytes_seen i e is ws = subst (λ s. Stands limits (with_part region e.place (take e.size ws)) table index (with_bytes s i ws)) view
+      (limited limits _ table index _ (bytes-step region table index sound i e is ws))
 
   pub byte_seen : (j at : ℕ) → Covers seen j at → slice_index region at ≡ slice_index (bytes_of seen j) (at - place_of seen j)
   byte_seen j at = subst (λ s. Covers s j at → slice_index region at ≡ slice_index (bytes_of s j) (at - place_of s j)) view

@@ -2,11 +2,11 @@
 use Rattle.std.specs.Prelude.{◌≡◌, ◌≢◌, ℕ, ◌+◌, ◌/◌, ◌%◌, ◌<◌, ◌≤◌, List, length, slice_index}
 use Rattle.std.specs.Int.{bit_at}
 
--- 1 where a slot is in the set, and else 0
+-- 1 if the slot is in the set, otherwise 0
 abbrev pub bit_of : List ℕ → ℕ → ℕ
 bit_of words slot = bit_at (slice_index words (slot / 64)) (slot % 64)
 
--- one slot is set to this, and every other is as it was
+-- one slot is set to this bit, and every other slot is unchanged
 pub record SetsBit (old new : List ℕ) (slot bit : ℕ) : Type 0 where
   pub here : bit_of new slot ≡ bit
   pub others : (other : ℕ) → other ≢ slot → bit_of new other ≡ bit_of old other

@@ -1,15 +1,24 @@
 -- How calls change a store.
 use Rattle.std.specs.Prelude.{◌≡◌, ◌≢◌, ℕ, zero, suc, ◌+◌, ◌-◌, ◌<◌, List, [], ◌∷◌, ◌++◌, drop, replicate, Option, Some, None, slice_set}
 use Rattle.lmem_raw.specs.Bytes.{with_part}
+use Rattle.block_handles.specs.declared.arena.Limits.{Limits}
 use Rattle.block_handles.specs.Store.{Block, Store, bytes_of, size_of, locks_of, place_of}
 
 -- the store with this block in a slot, or none, lying at this place
 abbrev pub with_block : Store → ℕ → Option Block → ℕ → Store
 with_block store slot block place = record store { blocks = slice_set store.blocks slot block; places = slice_set store.places slot place }
 
+-- the store with these limits
+abbrev pub with_limits : Store → Limits → Store
+with_limits store limits = record store { len = record store.len { most = limits.most; handles = limits.handles } }
+
 -- blocks may have this many bytes together
 abbrev pub with_most : Store → ℕ → Store
 with_most store most = record store { len = record store.len { most = most } }
+
+-- new blocks of global memory may get handles up to this one
+abbrev pub with_handles : Store → ℕ → Store
+with_handles store handles = record store { len = record store.len { handles = handles } }
 
 -- a block lies elsewhere
 abbrev pub with_place : Store → ℕ → ℕ → Store
@@ -19,7 +28,7 @@ with_place store slot place = record store { places = slice_set store.places slo
 abbrev pub new_block : ℕ → Option Block
 new_block size = Some (record { locks = 0; bytes = replicate size 0 })
 
--- a block with zeros behind its bytes, to this size
+-- a block with zeros appended to its bytes, up to this size
 abbrev pub grown_block : Store → ℕ → ℕ → Option Block
 grown_block store slot size = Some (record { locks = locks_of store slot; bytes = bytes_of store slot ++ replicate (size - size_of store slot) 0 })
 
@@ -69,6 +78,6 @@ blocks_after_write (block ∷ blocks) (place ∷ places) at ws = block_after_wri
 abbrev pub after_write : Store → ℕ → List ℕ → Store
 after_write store at ws = record store { blocks = blocks_after_write store.blocks store.places at ws }
 
--- each locked block but one lies where it lay
+-- each locked block except one lies where it lay
 abbrev pub LockedStay : Store → Store → ℕ → Type 0
 LockedStay old new but = (slot : ℕ) → slot ≢ but → 0 < locks_of old slot → place_of new slot ≡ place_of old slot

@@ -11,7 +11,7 @@ pub record IsGap (store : Store) (gap : Gap) : Type 0 where
   pub inside : gap.end ≤ region_len store
   pub free : IsFree store gap.at gap.end
 
--- a range of the region that is free but for one block
+-- a range of the region that contains no block except possibly this one
 pub record IsGapBut (store : Store) (slot : ℕ) (gap : Gap) : Type 0 where
   pub ordered : gap.at ≤ gap.end
   pub inside : gap.end ≤ region_len store

@@ -12,18 +12,18 @@ Covers store slot at = (place_of store slot ≤ at) × (at < end_of store slot)
 abbrev pub CoversRange : Store → ℕ → ℕ → ℕ → Type 0
 CoversRange store slot at n = (place_of store slot ≤ at) × (at + n ≤ end_of store slot)
 
--- where a block covers one of the bytes ws from an offset on, it is the byte of that block
+-- each of the bytes ws, from an offset on, that a block covers is the byte of this block
 abbrev pub ReadsAs : Store → ℕ → List ℕ → Type 0
 ReadsAs store at ws =
     (slot k : ℕ) → k < length ws → Covers store slot (at + k) → slice_index ws k ≡ slice_index (bytes_of store slot) (at + k - place_of store slot)
 
--- where a block covers what is written, that part of it is written, and nothing else
+-- if a block covers the range that is written, this part of the block is written, and nothing else
 abbrev pub WritesCovered : Store → Store → ℕ → List ℕ → Type 0
 WritesCovered old new at ws =
     (slot : ℕ) → 0 < length ws → CoversRange old slot at (length ws)
     → new ≡ with_bytes old slot (with_part (bytes_of old slot) (at - place_of old slot) ws)
 
--- the n bytes from one offset on are written at another, as they were before
+-- the n bytes from one offset on are written at another offset, with their old values
 pub record Copies (old new : Store) (from to n : ℕ) : Type 0 where
   pub bytes : List ℕ
   pub long : length bytes ≡ n
@@ -34,16 +34,16 @@ pub record Copies (old new : Store) (from to n : ℕ) : Type 0 where
 abbrev pub byte_of : Store → ℕ → ℕ → ℕ
 byte_of store slot at = slice_index (bytes_of store slot) (at - place_of store slot)
 
--- where a block covers the offset, this is its byte there
+-- if a block covers the offset, this is its byte there
 abbrev pub ReadsByte : Store → ℕ → ℕ → Type 0
 ReadsByte store at byte = (slot : ℕ) → Covers store slot at → byte ≡ byte_of store slot at
 
--- where blocks cover the offset and the next, this is the word of both, little end first
+-- if blocks cover the offset and the next, this is the word of both bytes, the low byte first
 abbrev pub ReadsWord : Store → ℕ → ℕ → Type 0
 ReadsWord store at word = (low high : ℕ) → Covers store low at → Covers store high (at + 1)
     → word ≡ byte_of store low at + 256 * byte_of store high (at + 1)
 
--- where one block covers what is copied, that part of it is written
+-- if one block covers the bytes that are copied, and one covers the target, this part of the target is written
 abbrev pub CopiesCovered : Store → Store → ℕ → ℕ → ℕ → Type 0
 CopiesCovered old new from to n = (slot : ℕ) → CoversRange old slot from n
     → WritesCovered old new to (part (bytes_of old slot) (from - place_of old slot) n)

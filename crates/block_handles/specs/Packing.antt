@@ -16,7 +16,7 @@ CanPack store from until =
     (slot : ℕ) → (end_of store slot ≤ from)
     ⊎ ((until ≤ place_of store slot) ⊎ ((from ≤ place_of store slot) × (end_of store slot ≤ until) × (locks_of store slot ≡ 0)))
 
--- blocks that lay from `from` to `until` lie from `low` to `high` now; all else is as it was
+-- the blocks between `from` and `until` have moved to between `low` and `high`; everything else is unchanged
 pub record Moves (old new : Store) (from until low high : ℕ) : Type 0 where
   pub blocks : new.blocks ≡ old.blocks
   pub len : new.len ≡ old.len

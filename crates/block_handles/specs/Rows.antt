@@ -1,4 +1,4 @@
--- What the rows of the table say.
+-- The entries that the rows of the table encode.
 use Rattle.std.specs.Prelude.{◌-◌, ◌<◌, ◌==◌, ◌&&◌, if◌then◌else◌, List, Option, Some, None, map}
 use Rattle.block_handles.specs.declared.table.Entry.{Entry}
 use Rattle.block_handles.specs.declared.table.Row.{Row}
@@ -7,7 +7,7 @@ use Rattle.block_handles.specs.declared.table.Row.{Row}
 abbrev pub free_row : Row
 free_row = record { place = 0; size = 0; left = 0; padding = 0 }
 
--- the entry of a row: none where the row has no byte and takes no lock
+-- the entry of a row: none if the row has size 0 and no lock
 abbrev pub entry_in : Row → Option Entry
 entry_in row =
     if (row.size == 0) && (row.left == 0) then None else Some (record { place = row.place; size = row.size; locks = 65535 - row.left })

@@ -15,11 +15,11 @@ only_in store from until f slot = if nat_le from (place_of store slot) && nat_le
 abbrev pub sum_in : Store → ℕ → ℕ → (ℕ → ℕ) → ℕ
 sum_in store from until f = total (slot_count store) (only_in store from until f)
 
--- a block's size, where it is another than this one
+-- the size of a block, 0 for this block
 abbrev pub other_size : Store → ℕ → ℕ → ℕ
 other_size store but slot = if nat_eq slot but then 0 else size_of store slot
 
--- a block's size, where it is another than this one and not locked
+-- the size of an unlocked block, 0 for this block and for locked ones
 abbrev pub unlocked_size : Store → ℕ → ℕ → ℕ
 unlocked_size store but slot = if nat_eq (locks_of store slot) 0 then other_size store but slot else 0
 
@@ -31,7 +31,8 @@ locked_one store but slot = if nat_eq slot but then 0 else if nat_eq (locks_of s
 abbrev pub IsOtherLocked : Store → ℕ → ℕ → Type 0
 IsOtherLocked store but slot = (slot ≢ but) × (0 < locks_of store slot)
 
--- a stretch before, between or behind the other locked blocks; the region, where there is none
+-- a stretch: a maximal range between locked blocks or the ends
+-- of the region; the whole region if no other block is locked
 pub record IsStretch (store : Store) (but from until : ℕ) : Type 0 where
   pub ordered : from ≤ until
   pub begins : (from ≡ 0) ⊎ ((slot : ℕ) × IsOtherLocked store but slot × (end_of store slot ≡ from))

@@ -8,7 +8,7 @@ use Rattle.block_handles.specs.Names.{IsHandle, slot_of}
 use Rattle.block_handles.specs.Store.{Store, IsThere, locks_of, most_of, region_len}
 use Rattle.block_handles.specs.Stretch.{all_sizes, vm_locks}
 
--- the bits say which slots are in use
+-- the bits show which slots are in use
 pub record IsUsed (store : Store) (words : List ℕ) : Type 0 where
   pub long : length words ≡ 32
   pub there : (slot : ℕ) → slot < 2048 → bit_of words slot ≡ 1 → IsThere store slot
@@ -20,12 +20,12 @@ pub record IsFreeCount (store : Store) (free : ℕ) : Type 0 where
   pub within : most_of store ≤ region_len store
   pub short : region_len store < 2 ^ 32
 
--- the blocks of the VM file are locked so often, all together, and no block more often than it can be
+-- the sum of the lock counts of the blocks of the VM file; no lock count exceeds 65,535
 pub record IsLockSum (store : Store) (held : ℕ) : Type 0 where
   pub added : held ≡ vm_locks store
   pub each : (slot : ℕ) → locks_of store slot ≤ 65535
 
--- what holds of the fields
+-- the invariant of the fields
 pub record IsKept (store : Store) (gap : Gap) (words : List ℕ) (free held : ℕ) : Type 0 where
   pub ready : IsReady store gap
   pub used : IsUsed store words

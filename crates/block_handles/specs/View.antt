@@ -1,4 +1,4 @@
--- The store that a region and a table of entries spell.
+-- The store that a region and a table of entries encode.
 use Rattle.std.specs.Prelude.{◌≡◌, ℕ, ◌+◌, ◌/◌, ◌^◌, ◌<◌, ◌≤◌, List, length, Option, Some, None, map, slice_index_or}
 use Rattle.block_handles.specs.declared.table.Entry.{Entry}
 use Rattle.block_handles.specs.Store.{Block, Store, size_of, place_of, whole}
@@ -15,7 +15,7 @@ abbrev pub place_in : Option Entry → ℕ
 place_in None = 0
 place_in (Some entry) = entry.place
 
--- the store that a region and a table spell, without a limit
+-- the store that a region and a table encode, without a limit
 abbrev pub store_in : List ℕ → List (Option Entry) → Store
 store_in region table = record { blocks = map (block_in region) table; places = map place_in table; len = whole (length region) }
 
@@ -30,7 +30,7 @@ pub record IsIndexed (store : Store) (index : List (Option ℕ)) : Type 0 where
   pub found : (slot : ℕ) → 0 < size_of store slot → slice_index_or index (place_of store slot / 64) None ≡ Some slot
   pub real : (granule slot : ℕ) → slice_index_or index granule None ≡ Some slot → (0 < size_of store slot) × (place_of store slot / 64 ≡ granule)
 
--- what holds of an arena's fields
+-- the invariant of an arena's fields
 pub record IsSound (region : List ℕ) (table : List (Option Entry)) (index : List (Option ℕ)) : Type 0 where
   pub lies : (slot : ℕ) → Lies region (slice_index_or table slot None)
   pub laid : IsLaidOut (store_in region table)

@@ -9,8 +9,20 @@ use lmem_raw::Region;
 use std::alloc::{AllocError, Global};
 use std::marker::Model;
 
+/// The highest handle.
+const HANDLES: u16 = 1_024;
+
 /// Each block has at least this many bytes, so no two begin in one granule.
 const GRANULE: u32 = 64;
+
+/// What blocks may take.
+#[derive(Clone, Copy)]
+pub(crate) struct Limits {
+    /// How many bytes all blocks may have together.
+    pub most: u32,
+    /// The highest handle that a new block of global memory may get.
+    pub handles: u16,
+}
 
 /// A region and the blocks in it.
 #[derive(Drop)]
@@ -18,8 +30,7 @@ pub(crate) struct Arena {
     region: Region,
     table: Table,
     index: Vec<Option<u16>>,
-    /// How many bytes all blocks may have together.
-    most: u32,
+    limits: Limits,
 }
 
 impl Model for Arena {
@@ -27,10 +38,10 @@ impl Model for Arena {
 
     ghost Value = { Store };
 
-    ghost use Rattle.block_handles.specs.Change.{with_most};
+    ghost use Rattle.block_handles.specs.Change.{with_limits};
     ghost use Rattle.block_handles.specs.View.{store_in, IsSound};
 
-    ghost view = { λ a. with_most (store_in a.region a.table) a.most };
+    ghost view = { λ a. with_limits (store_in a.region a.table) a.limits };
 
     ghost invariant = { λ a. IsSound a.region a.table a.index.items };
 }
@@ -60,10 +71,10 @@ fn move_to(region: &mut Region, from: u32, to: u32, n: u32)
 impl Arena {
     ghost use Rattle.block_handles.specs.Layout.{IsEmpty, IsRegion};
     ghost use Rattle.block_handles.specs.Search.{IsFirst, IsLast, BeginsNone};
-    ghost use Rattle.block_handles.specs.Store.{IsThere, bytes_of, size_of, place_of, end_of, locks_of, most_of, region_len};
+    ghost use Rattle.block_handles.specs.Store.{IsThere, bytes_of, size_of, place_of, end_of, locks_of, handles_of, most_of, region_len};
     ghost use Rattle.block_handles.specs.Layout.{IsLaidOut, IsFreeBut};
     ghost use Rattle.geos_terms.specs.Heap.{IsBlockSize, most_block_bytes};
-    ghost use Rattle.block_handles.specs.Change.{with_block, new_block, grown_block, with_most, with_place, with_lock_more, with_lock_less, after_write};
+    ghost use Rattle.block_handles.specs.Change.{with_block, new_block, grown_block, with_handles, with_most, with_place, with_lock_more, with_lock_less, after_write};
     ghost use Rattle.block_handles.specs.Lending.{LendsBytes};
     ghost use Rattle.block_handles.specs.Offsets.{Copies, ReadsAs, ReadsByte, ReadsWord};
 
@@ -75,7 +86,10 @@ impl Arena {
             region: Region::new(alloc, len)?,
             table: Table::new(alloc)?,
             index: empty_index(alloc, (len / GRANULE) as usize + 1)?,
-            most: len,
+            limits: Limits {
+                most: len,
+                handles: HANDLES,
+            },
         })
     }
 
@@ -89,14 +103,28 @@ impl Arena {
     pub(crate) fn most(&self) -> u32
         ensures { result ≡ most_of self.now }
     {
-        self.most
+        self.limits.most
     }
 
     /// Sets how many bytes all blocks may have together.
     pub(crate) fn limit(&mut self, most: u32)
         ensures { self.new ≡ with_most self.old most }
     {
-        self.most = most;
+        self.limits.most = most;
+    }
+
+    /// The highest handle that a new block of global memory may get.
+    pub(crate) fn handles(&self) -> u16
+        ensures { result ≡ handles_of self.now }
+    {
+        self.limits.handles
+    }
+
+    /// Sets the highest handle that a new block of global memory may get.
+    pub(crate) fn limit_handles(&mut self, handles: u16)
+        ensures { self.new ≡ with_handles self.old handles }
+    {
+        self.limits.handles = handles;
     }
 
     /// The bytes of the region, in which the blocks lie.
@@ -136,7 +164,7 @@ impl Arena {
         self.table.entry_of(slot).size
     }
 
-    /// Where a block ends.
+    /// The offset at which a block ends.
     pub(crate) fn end(&self, slot: usize) -> u32
         requires { IsThere self.now slot }
         ensures { result ≡ end_of self.now slot }
@@ -215,7 +243,7 @@ impl Arena {
         self.region.move_bytes(from, to, count);
     }
 
-    /// Puts a new block into a free slot, where no other lies.
+    /// Puts a new block into a free slot, at a place where no other block lies.
     pub(crate) fn create(&mut self, slot: usize, at: u32, size: u32)
         requires slot { (slot < 2048) × (IsThere self.old slot → ⊥) }
         requires legal { IsBlockSize size }
@@ -229,8 +257,8 @@ impl Arena {
         self.index[(at / GRANULE) as usize] = Some(slot as u16);
     }
 
-    /// Moves a block to where no other lies, and grows it there by zeros. It may overlap its
-    /// own old place.
+    /// Moves a block to a place where no other block lies, and grows
+    /// it there by zeros. The place may overlap the block's old one.
     pub(crate) fn relocate(&mut self, slot: usize, to: u32, size: u32)
         requires there { IsThere self.old slot }
         requires legal { (size_of self.old slot ≤ size) × (size ≤ most_block_bytes) × (size % 16 ≡ 0) }
@@ -282,7 +310,7 @@ impl Arena {
         self.table.unlock(slot);
     }
 
-    /// Moves a block to where no other lies. It may overlap its own old place.
+    /// Moves a block to a place where no other block lies. The place may overlap the block's old one.
     pub(crate) fn slide(&mut self, slot: usize, to: u32)
         requires there { IsThere self.old slot }
         requires laid { IsLaidOut self.old }

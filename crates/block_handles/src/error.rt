@@ -1,7 +1,7 @@
 //! Why calls refuse.
 use thiserror::Error;
 
-/// Why no block was made or grown. Every block is as it was, its place too.
+/// Why no block was made or grown. All blocks and their places are unchanged.
 #[derive(Clone, Copy, Debug, Drop, PartialEq, Eq, Error)]
 pub enum RoomError {
     /// No stretch between locked blocks has room for the request.
@@ -12,7 +12,7 @@ pub enum RoomError {
     TooBig,
 }
 
-/// Why a block was not locked or freed. Every block is as it was.
+/// Why a block was not locked or freed. All blocks are unchanged.
 #[derive(Clone, Copy, Debug, Drop, PartialEq, Eq, Error)]
 pub enum HandleError {
     /// No block has this name.

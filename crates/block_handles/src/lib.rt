@@ -57,13 +57,13 @@ impl Model for Blocks {
 
 impl Blocks {
     ghost use Rattle.block_handles.specs.Calls.{Makes, Grows};
-    ghost use Rattle.block_handles.specs.Change.{with_lock_more, with_lock_less, with_most, without, after_write};
+    ghost use Rattle.block_handles.specs.Change.{with_lock_more, with_handles, with_lock_less, with_most, without, after_write};
     ghost use Rattle.block_handles.specs.Layout.{IsEmpty, IsLaidOut, IsRegion};
     ghost use Rattle.geos_terms.specs.Heap.{IsBlockSize, most_block_bytes};
     ghost use Rattle.block_handles.specs.LendingBlocks.{LendsBlock};
     ghost use Rattle.block_handles.specs.Names.{slot_of, IsHandle};
     ghost use Rattle.block_handles.specs.Offsets.{Copies, CopiesCovered, ReadsAs, ReadsByte, ReadsWord, WritesCovered};
-    ghost use Rattle.block_handles.specs.Store.{IsThere, bytes_of, size_of, place_of, end_of, locks_of, most_of, region_len};
+    ghost use Rattle.block_handles.specs.Store.{IsThere, bytes_of, size_of, place_of, end_of, handles_of, locks_of, most_of, region_len};
     ghost use Rattle.block_handles.specs.Stretch.{HasNoRoom, all_sizes, vm_locks};
     ghost use Rattle.block_handles.specs.Used.{IsLowest, AllInUse};
 
@@ -92,8 +92,7 @@ impl Blocks {
         Some((slot - first) as u16 + 1)
     }
 
-    /// The bytes of the region, in which the blocks lie: each block's bytes are those from its
-    /// place on.
+    /// The bytes of the region that contains the blocks: a block's bytes begin at its place.
     pub fn region(&self) -> &[u8]
         ensures region { IsRegion self.now result.now }
         ensures bytes { All (λ b. b < 256) result.now }
@@ -146,14 +145,29 @@ impl Blocks {
         self.arena.most() - self.free
     }
 
-    /// Lets all blocks together have `more` bytes more than they have, at most the whole region, until the next call.
-    /// So a large number takes the limit away. What would be more is refused as want of room is.
+    /// Lets all blocks together have `more` bytes more than now, at most the whole region, until the next call.
+    /// A large number removes the limit. A request beyond the limit is refused like a request without room.
     pub fn limit(&mut self, more: u32)
         ensures { self.new ≡ with_most self.old (min more (region_len self.old - all_sizes self.old) + all_sizes self.old) }
     {
         let taken = self.arena.most() - self.free;
         self.free = more.min(self.arena.len() - taken);
         self.arena.limit(self.free + taken);
+    }
+
+    /// The highest handle that a new block of global memory may get: 1,024, unless `limit_handles` has set another one.
+    pub fn handles(&self) -> u16
+        ensures { result ≡ handles_of self.now }
+    {
+        self.arena.handles()
+    }
+
+    /// Sets the highest handle that a new block of global memory may get, until the next call. This changes no block. The number is only
+    /// stored: a caller of `make` compares it with the handle.
+    pub fn limit_handles(&mut self, handles: u16)
+        ensures { self.new ≡ with_handles self.old handles }
+    {
+        self.arena.limit_handles(handles);
     }
 
     /// The end of the gap, the free range in which the next block is placed. If the block after it
@@ -176,7 +190,7 @@ impl Blocks {
         Some((name_of(slot), arena.end(slot)))
     }
 
-    /// Where a block begins in the region. Blocks lie in the region, and no two overlap.
+    /// The offset at which a block begins in the region. Blocks lie in the region, and no two overlap.
     pub fn place(&self, name: Name) -> u32
         requires { IsThere self.now (slot_of name) }
         ensures place { result ≡ place_of self.now (slot_of name) }
@@ -202,8 +216,8 @@ impl Blocks {
         self.arena.bytes(slot_in_use(name))
     }
 
-    /// Lends a block's bytes for writing. Once the loan ends, the block has what was left in
-    /// them, and nothing else has changed.
+    /// Borrows a block's bytes for writing. When the borrow ends, the block
+    /// has the bytes that were left in them, and nothing else has changed.
     pub fn bytes_mut(&mut self, name: Name) -> &mut [u8]
         requires { IsThere self.old (slot_of name) }
         ensures* writes_back { sem 𝓛 (LendsBlock self.entry (slot_of name) result) }

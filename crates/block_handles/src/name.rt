@@ -19,7 +19,7 @@ pub(crate) fn of_file(owner: Owner) -> u32
     owner as u32
 }
 
-/// The slot of a name; past the last one where the handle can't be in use.
+/// The slot of a name; past the last slot if the handle can't be in use.
 pub(crate) fn slot_of(name: Name) -> usize
     ensures { result ≡ slot_of name }
 {

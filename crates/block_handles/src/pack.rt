@@ -7,7 +7,7 @@ ghost use Rattle.block_handles.specs.Stretch.{sum_in};
 
 use crate::arena::Arena;
 
-/// Slides the blocks that lie in a range down to its begin. Answers where the last one ends.
+/// Slides the blocks that lie in a range down to its begin. Returns the offset at which the last one ends.
 pub(crate) fn pack_down(arena: &mut Arena, from: u32, until: u32) -> u32
     requires laid { IsLaidOut arena.old }
     requires range { (from ≤ until) × (until ≤ region_len arena.old) }
@@ -29,7 +29,7 @@ pub(crate) fn pack_down(arena: &mut Arena, from: u32, until: u32) -> u32
     at
 }
 
-/// Slides the blocks that lie in a range up to its end. Answers where the first one begins.
+/// Slides the blocks that lie in a range up to its end. Returns the offset at which the first one begins.
 pub(crate) fn pack_up(arena: &mut Arena, from: u32, until: u32) -> u32
     requires laid { IsLaidOut arena.old }
     requires range { (from ≤ until) × (until ≤ region_len arena.old) }

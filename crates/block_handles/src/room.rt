@@ -18,15 +18,15 @@ pub(crate) struct Gap {
     pub(crate) end: u32,
 }
 
-/// A hole is not made the gap where the other free bytes are more than so many times its own:
-/// packing gives a larger gap then, for a request and many that follow it.
+/// A hole does not become the gap if the other free bytes are more than SHARE times
+/// its own. Packing then makes a larger gap, for this request and many later ones.
 const SHARE: u32 = 16;
 
 impl Gap {
     ghost use Rattle.block_handles.specs.Joined.{Joins, Reaches};
 
-    /// The gap with a free range that lies right before or after it. A larger one that lies apart
-    /// becomes the gap where it has its share of the `free` bytes beside it.
+    /// The gap, extended by a free range directly before or after it. A larger range
+    /// elsewhere becomes the gap if it is large enough compared with the other `free` bytes.
     pub(crate) fn joined(self, from: u32, until: u32, free: u32) -> Gap
         requires { (self.at ≤ self.end) × (from ≤ until) }
         ensures { Joins self from until result }
@@ -85,9 +85,9 @@ fn stretch_for(arena: &Arena, after: u32, slot: usize, size: u32) -> Result<Stre
     Ok(stretch)
 }
 
-/// A gap with room for a new block in a slot, or for the one that is there, which may lie in
-/// the gap. Packs one stretch where the gap at hand is too small: the next one after `after`
-/// that has room, where no block crosses `after`.
+/// A gap with room for a new block in a slot, or for the block that is there, which may lie in the gap. If the current
+/// gap is too small, packs one stretch: the next one after `after` that has room, provided that no block crosses
+/// `after`.
 pub(crate) fn room_for(
     arena: &mut Arena,
     gap: Gap,

@@ -1,4 +1,4 @@
-//! The table of the blocks by slots. Its rows have no tag: what they say is an entry or none.
+//! The table of the blocks by slots. Its rows have no tag: each row encodes an entry or none.
 ghost use Rattle.std.specs.Prelude.{◌≡◌, ℕ, ◌+◌, ◌-◌, ◌<◌, ◌↔◌, length, slice_index_or, slice_set, Some, None, IfOk, IfSome, IsSomeAnd, IsTrue, IsFalse};
 ghost use Rattle.block_handles.specs.Rows.{HasSize, IsEntry, IsLocked, free_row};
 
@@ -23,7 +23,7 @@ struct Row {
     place: u32,
     size: u32,
     left: u16,
-    /// Says nothing: with it a row has 16 bytes, and a shift of the slot finds it.
+    /// Unused: it makes a row 16 bytes long, so that a shift of the slot finds the row.
     padding: u32,
 }
 

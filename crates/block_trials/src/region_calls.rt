@@ -29,7 +29,7 @@ pub(crate) fn answer(
     Ok(other_call(region, line))
 }
 
-/// Makes the call of a line that does not read many bytes, or that asks for bytes past the end.
+/// Makes the call of a line that does not read many bytes. The line may also name bytes past the end.
 fn other_call(region: &mut Region, line: &Line<'_>) -> Answer {
     match line.word {
         "slice" => Answer::NotAsked(PAST_THE_END),

@@ -26,7 +26,7 @@ kept_outside at n i old new t (inr behind) =
     subst P same (sym (get_or-drop (at + n) new (i - (at + n)) 0) ∙ ap (λ xs. get_or xs (i - (at + n)) 0) t.behind
     ∙ get_or-drop (at + n) old (i - (at + n)) 0)
 
--- what stands in a list in the place of another value stands there too in the place of that one
+-- a lookup whose default is the result of the same lookup has the same result
 or_twice : (xs : List ℕ) (i d : ℕ) → get_or xs i (get_or xs i d) ≡ get_or xs i d
 or_twice [] i d = refl
 or_twice (x ∷ xs) zero d = refl

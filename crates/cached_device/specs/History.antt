@@ -1,4 +1,4 @@
--- What a device with a cache holds, and what a stop leaves of it.
+-- The contents of a device with a cache, and what a stop leaves of it.
 use Rattle.std.specs.Prelude.{◌≡◌, ◌⊎◌, ℕ, zero, suc, ◌-◌, List, [], ◌∷◌, Vec, length, reverse, refl, Result, OnOk}
 use Rattle.std.specs.Global.{Global}
 use Rattle.std.proofs.Common.{inl, inr, subst}
@@ -11,7 +11,8 @@ use Rattle.cached_device.specs.declared.device.CachedDevice.{CachedDevice}
 use Rattle.cached_device.specs.declared.event.Event.{Event}
 use Rattle.cached_device.specs.declared.event.Event.TheVariants.{Written, Synced}
 
--- what a stop leaves after these events, the last one first, of bytes that lasted before: those that were made to last, and in each range that was written since then any bytes
+-- what a stop may leave after these events, the last event first, starting from durable
+-- bytes: the bytes of the last sync, with any bytes in each range that was written since
 abbrev pub Leaves : List ℕ → List Event → List ℕ → Type 0
 Leaves start [] c = c ≡ start
 Leaves start (Written at n ∷ before) c = AfterWrite at n (Leaves start before) c
@@ -22,7 +23,7 @@ abbrev pub LeavesSince : List ℕ → ℕ → List Event → List ℕ → Type 0
 LeavesSince start (suc count) (event ∷ before) c = Leaves start (event ∷ before) c ⊎ LeavesSince start count before c
 LeavesSince start count events c = Leaves start events c
 
--- what reads give
+-- what reads return
 abbrev pub bytes_of : CachedDevice → List ℕ
 bytes_of device = memory.bytes_of device.cache
 
@@ -45,7 +46,7 @@ pub record Happens (event : Event) (old new : CachedDevice) : Type 0 where
   pub start : new.start.items ≡ old.start.items
   pub events : events_of new ≡ event ∷ events_of old
 
--- a device of which what reads give was made to last
+-- a sync made durable what reads return
 pub record Syncs (old new : CachedDevice) : Type 0 where
   pub bytes : Vec ℕ Global
   pub all : bytes.items ≡ bytes_of old
@@ -55,28 +56,28 @@ pub record Syncs (old new : CachedDevice) : Type 0 where
 abbrev pub IsHonest : CachedDevice → Type 0
 IsHonest device = Unit {0}
 
--- a stop now leaves what reads give, or what the events leave
+-- a stop now leaves what reads return, or what the events may leave
 abbrev pub MayLeave : CachedDevice → List ℕ → Type 0
 MayLeave device c = (c ≡ bytes_of device) ⊎ Leaves device.start.items (events_of device) c
 
--- a stop since an earlier state left what reads give, or what the events had left at some moment since
+-- a stop since an earlier state left what reads return, or what the events could leave at some moment since
 abbrev pub MayHaveLeft : CachedDevice → CachedDevice → List ℕ → Type 0
 MayHaveLeft start device c =
     (c ≡ bytes_of device) ⊎ LeavesSince device.start.items (length (events_of device) - length (events_of start)) (events_of device) c
 
--- a read gives the bytes that stand there
+-- a read returns the bytes at the offset
 abbrev pub MayRead : CachedDevice → ℕ → List ℕ → Result (Unit {0}) Disk → CachedDevice → Type 0
 MayRead old at bytes result new = OnOk result (bytes ≡ part (bytes_of old) at (length bytes)) × (bytes_of new ≡ bytes_of old)
 
--- a write puts the bytes there
+-- a write replaces the bytes at the offset
 abbrev pub MayWrite : CachedDevice → ℕ → List ℕ → Result (Unit {0}) Disk → CachedDevice → Type 0
 MayWrite old at bytes result new = OnOk result (bytes_of new ≡ with_part (bytes_of old) at bytes)
 
--- a sync changes nothing of what reads give
+-- a sync does not change what reads return
 abbrev pub MaySync : CachedDevice → Result (Unit {0}) Disk → CachedDevice → Type 0
 MaySync old result new = bytes_of new ≡ bytes_of old
 
--- such a device
+-- the device with a cache as a medium
 abbrev pub medium : Medium CachedDevice
 medium = record {
   image = bytes_of;
@@ -89,7 +90,7 @@ medium = record {
   syncs = MaySync;
 }
 
--- what reads give is what a stop may leave
+-- a stop may leave what reads return
 pub reads_now : (device : CachedDevice) → MayLeave device (bytes_of device)
 reads_now device = inl refl
 

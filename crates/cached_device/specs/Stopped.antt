@@ -7,7 +7,7 @@ use Rattle.cached_device.specs.declared.event.Event.TheVariants.{Written, Synced
 use Rattle.cached_device.specs.declared.part.Part.{Part}
 use Rattle.cached_device.specs.declared.part.Part.TheVariants.{Old, New, Garbage}
 
--- what lasts after these events, the last one first: what was made to last, or else what lasted at first
+-- the durable bytes after these events, the last event first: the bytes of the last sync, or the initial bytes
 abbrev pub lasting : List ℕ → List Event → List ℕ
 lasting start [] = start
 lasting start (Written at n ∷ before) = lasting start before
@@ -30,7 +30,7 @@ byte_left (Some Old) old new = old
 byte_left (Some New) old new = new
 byte_left (Some Garbage) old new = 0xa5
 
--- the same of a byte of an image, where reads give these bytes; a part has 512 bytes
+-- the byte of an image after a stop, if reads return these bytes; a part has 512 bytes
 abbrev pub chosen : List Part → List ℕ → List ℕ → ℕ → ℕ
 chosen parts now old i = byte_left (slice_get parts (i / 512)) (slice_index old i) (slice_index_or now i (slice_index old i))
 

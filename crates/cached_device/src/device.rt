@@ -9,12 +9,13 @@ use crate::part::{Part, leave};
 use std::alloc::{AllocError, Global};
 use vm_file::{Device, Disk, MemoryDevice};
 
-/// A device with a cache. Reads give what was last written, and it lasts once a `sync` has succeeded. The device keeps what happened, so
-/// that it can say what a stop at any moment may have left. It fails past its length, and where it has no memory for that.
+/// A device with a cache. Reads return what was last written; a write is durable once a `sync` has succeeded. The
+/// device records its calls, so that it can tell what a stop at any moment may have left. It fails past its length, and
+/// if it has no memory for the record.
 #[derive(Drop)]
 pub struct CachedDevice {
     alloc: Global,
-    /// What reads give.
+    /// What reads return.
     cache: MemoryDevice,
     /// What lasted at first.
     start: Vec<u8>,
@@ -42,8 +43,8 @@ impl CachedDevice {
         })
     }
 
-    /// What a stop now leaves, where it makes this of the parts of 512 bytes that were written since the last `sync`, in the order
-    /// of the device. `AllocError` if the allocator has no memory.
+    /// What a stop now leaves, with these choices for the parts of 512 bytes that were written since
+    /// the last `sync`, in the order of the device. `AllocError` if the allocator has no memory.
     pub fn after_stop(&self, parts: &[Part]) -> Result<Vec<u8>, AllocError>
         ensures possible { IfOk result (λ bytes. MayLeave self.now bytes.items) }
         ensures chosen { IfOk result (λ bytes. LeavesBy self.now parts.now bytes.items) }
@@ -82,7 +83,7 @@ impl Device for CachedDevice {
         self.failures
     }
 
-    /// Reads the bytes from an offset on. `Disk` past the length, and there alone.
+    /// Reads the bytes from an offset on. Fails with `Disk` if and only if they reach past the length.
     fn read_at(&mut self, at: u64, into: &mut [u8]) -> Result<(), Disk>
         ensures within { OnOk result (at + length into.old ≤ length (bytes_of self.old)) }
         ensures past { OnErr result (length (bytes_of self.old) < at + length into.old) }
@@ -97,7 +98,7 @@ impl Device for CachedDevice {
         }
     }
 
-    /// Writes bytes from an offset on. `Disk` past the length, and where there is no memory: then nothing happened.
+    /// Writes bytes from an offset on. `Disk` past the length, or if there is no memory: then nothing happened.
     fn write_at(&mut self, at: u64, bytes: &[u8]) -> Result<(), Disk>
         ensures within { OnOk result (at + length bytes.now ≤ length (bytes_of self.old)) }
         ensures written { OnOk result (bytes_of self.new ≡ with_part (bytes_of self.old) at bytes.now) }

@@ -1,8 +1,8 @@
-//! A device as disks are: what is written lasts only once a `sync` has succeeded, and a stop before that leaves of each part that was
-//! written what stood there, what was written, or anything else.
+//! A device that behaves like a disk: a write is durable only after a `sync` has succeeded. A
+//! stop before that leaves in each written part the old bytes, the new bytes, or anything else.
 //!
-//! It shows that the trait of devices speaks of such disks, and not of memory alone: it is honest, and proved to keep the trait's clauses.
-//! Trials stop it at every call, and choose what each part becomes.
+//! It shows that the trait of devices fits such disks, and not only memory: this device is honest, and is
+//! proved to satisfy the clauses of the trait. Trials stop it at every call, and choose what each part becomes.
 #![tactic(auto)]
 
 mod device;

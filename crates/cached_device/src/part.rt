@@ -7,7 +7,7 @@ ghost use Rattle.cached_device.specs.Stopped.{byte_left, chosen};
 pub(crate) const PART: usize = 512;
 
 /// What a stop leaves of a part that was written since the last `sync`.
-#[derive(Clone, Copy, Debug, Drop, PartialEq, Eq)]
+#[derive(Clone, Copy, Drop, PartialEq, Eq)]
 pub enum Part {
     /// What lasted before.
     Old,
@@ -17,7 +17,7 @@ pub enum Part {
     Garbage,
 }
 
-/// The byte that stands where neither the old one nor the new one does.
+/// The byte that a stop leaves if it leaves neither the old nor the new byte.
 const GARBAGE: u8 = 0xa5;
 
 /// What becomes of a byte that was written.
@@ -31,7 +31,8 @@ fn left(part: Option<Part>, old: u8, new: u8) -> u8
     }
 }
 
-/// Leaves of the `n` bytes from `at` on what the choices say, one for each part of the device; where there is none, the old bytes stay.
+/// Sets the `n` bytes from `at` on by the choices, one for each
+/// part of the device; without a choice the old bytes stay.
 pub(crate) fn leave(bytes: &mut [u8], at: u64, n: u64, new: &[u8], parts: &[Part])
     ensures touched { Touched at n bytes.old bytes.new }
     ensures left { (i : ℕ) → at ≤ i → i < at + n → i < length bytes.old → slice_index bytes.new i ≡ chosen parts.now new.now bytes.old i }

@@ -32,7 +32,7 @@ front-elements bytes a i r =
 pub first-le : (a : Array) (i : ℕ) → first_at a ≤ element_at a i
 first-le a i = omega (arith, element-at a i)
 
--- a list's first bytes stay, whatever is behind them
+-- a list's first bytes are the same, whatever follows them
 pub front-byte : (bs zs : List ℕ) (at k : ℕ) → k < at → at ≤ length bs → get_or (take at bs ++ zs) k 0 ≡ get_or bs k 0
 front-byte bs zs at k h fits = get_or_append_left (take at bs) zs 0 k (omega (arith, length-take at bs)) ∙ get_or-take at bs k 0 h
 
@@ -40,7 +40,7 @@ pub front-word : (bs zs : List ℕ) (at k : ℕ) → k + 2 ≤ at → at ≤ len
 front-word bs zs at k h fits = word-bytes bs (take at bs ++ zs) k k (front-byte bs zs at k (omega arith) fits)
     (front-byte bs zs at (k + 1) (omega arith) fits)
 
--- where elements begin: those before the new one, and those behind it
+-- where elements begin after an insertion: those before the new one, and those after it
 pub begins-before : (a : Array) (i j n : ℕ) → a.element_size ≡ 0 → i ≤ length a.elements → j ≤ i
     → element_at (with_element a i n) j ≡ element_at a j + 2
 begins-before a i j n none fits h =
@@ -67,7 +67,7 @@ begins-behind a i j n none fits h =
       length-insert a.elements i z fits,
     )
 
--- what is behind an opened table
+-- the bytes after an opened table
 open-rest : (old new : List ℕ) (count i at n : ℕ) → OpensTable old new count i at n → 8 + 2 * count ≤ at → at + 2 ≤ length old
     → drop (8 + 2 * (count + 1)) new ≡ part old (8 + 2 * count) (at - (8 + 2 * count)) ++ drop (at + 2) old
 open-rest old new count i at n o table room =
@@ -88,7 +88,7 @@ open-rest old new count i at n o table room =
           ∙ sym (get_or-append_right xs ys (at - t) k 0 lx g ∙ get_or-drop (at + 2) old (k - (at - t)) 0 ∙ ap (λ q. get_or old q 0) same))
     ]))
 
--- a word at the front changes nothing behind it
+-- a word at the front changes no byte after it
 pub drop-word : (b : List ℕ) (w n : ℕ) → 2 ≤ n → drop n (with_word b 0 w) ≡ drop n b
 drop-word b w n h =
     let l = length-with_word b 0 w in

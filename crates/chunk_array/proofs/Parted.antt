@@ -83,7 +83,7 @@ without-small bytes at n small fits k = elim (cases_lt k at) [
       ∙ get_or-drop (at + n) bytes (k - at) 0 in omega (arith, e, small (at + n + (k - at))))
 ]
 
--- and spell the array without the element
+-- the bytes encode the array without the element, if the sizes of elements vary
 pub spells-varying : (bytes new done : List ℕ) (a : Array) (shape : Shape) (place : ElementPlace) (w : ℕ)
     → HasPart bytes a shape place → shape.element_size ≡ 0
     → ClosesTable bytes new shape.count place.index place.begin place.len → w ≡ shape.count - 1 → done ≡ with_word new 0 w

@@ -1,4 +1,4 @@
--- What a chunk spells after an array is spelled in it.
+-- An array that is encoded in a chunk is read back from it.
 use Rattle.std.proofs.Common.{◌≡◌, ◌≢◌, ℕ, List, [], ◌∷◌, ◌++◌, Option, Some, None, length, replicate, unwrap_or, refl, ap, sym, ◌∙◌, inl, inr, ◌⊎◌, arith}
 use Rattle.std.specs.Prelude.{Bool, is_none, nat_lt}
 use Rattle.std.proofs.lemmas.Bool.{cases_lt}
@@ -17,14 +17,14 @@ use Rattle.geos_terms.proofs.ChunkItems.{known-bytes, chunk-written, chunk-new}
 use Rattle.chunk_array.specs.Changes.{IsSized, ChangesArray, EditsChangeArrays}
 use Rattle.chunk_array.proofs.Sized.{read-sized, empty-sized, with-sized, without-sized, with-bytes-sized}
 
--- bytes that spell an array are those that it spells
+-- bytes that encode an array are the array's encoding
 pub spelled-once : (bytes : List ℕ) (a : Array) → AreBytes bytes → arr bytes ≡ Some a → spelled a ≡ bytes
 spelled-once bytes a small is = spelled-array bytes a (λ k. elim (cases_lt k (length bytes)) [
   | inl l ↦ small k 0 l
   | inr g ↦ omega (arith, get_or_past bytes k 0 g)
 ]) is
 
--- a chunk that spells an array
+-- a chunk that encodes an array
 record Spells (cs : List (Option (List ℕ))) (c : ℕ) (a : Array) : Type 0 where
   bytes : List ℕ
   there : chunk_of cs c ≡ Some bytes
@@ -50,7 +50,7 @@ passed cs c more h = elim (some-or-none (chunk_of cs c)) [
   ]
 ]
 
--- an array that is spelled in a chunk is read there
+-- an array that is encoded in a chunk is read there
 pub read-back : (cs : List (Option (List ℕ))) (c : ℕ) (bytes : List ℕ) (a : Array) → chunk_of cs c ≡ Some bytes
     → IsSized a → arr (bytes_of (with_array cs c a) c) ≡ Some a
 read-back cs c bytes a there sized = ap arr (known-bytes (with_array cs c a) c (spelled a) (chunk-written cs c bytes (spelled a) there))

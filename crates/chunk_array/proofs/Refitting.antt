@@ -91,7 +91,7 @@ refit-behind a i j n z long none fits h =
       length-set a.elements i z,
     )
 
--- the offsets behind the element made right, the bytes spell the array
+-- once the offsets after the element are corrected, the bytes encode the array
 pub refitted : (before old bytes : List ℕ) (a : Array) (shape : Shape) (place : ElementPlace) (n : ℕ)
     → HasRefit old before a shape place n → ShiftsOffsets old bytes (place.index + 1) shape.count place.len n
     → ((k : ℕ) → get_or bytes k 0 < 256) → bytes ≡ spelled (with_refit a place.index n)

@@ -15,7 +15,7 @@ can-delete BadChunk cs c at n bytes there fits none = let e : Some bytes ≡ Non
 can-delete Range cs c at n bytes there fits far = let e = known-bytes cs c bytes there in
     let l : length (bytes_of cs c) ≡ length bytes = ap length e in omega (arith, l, far.1, fits)
 
--- of tests the first that holds comes first, whatever is tried behind them
+-- the first refusal stays the first, whatever tests follow
 pub first-stays : (tests more : List (Bool × Refusal)) (r : Refusal) → first_refusal tests ≡ Some r → first_refusal (tests ++ more) ≡ Some r
 first-stays [] more r is = absurd cc
 first-stays (test ∷ tests) more r is = by test.0 (first-stays tests more r) is

@@ -17,7 +17,7 @@ use Rattle.geos_terms.proofs.ArrayPlaces.{element-bounds, element-ends, drop-ele
 use Rattle.chunk_array.specs.Tables.{offset, ClosesTable}
 use Rattle.chunk_array.proofs.Inserting.{front-word, front-elements, first-le, drop-word}
 
--- where elements begin: those before the one that goes, and those behind it
+-- where elements begin after a removal: those before the removed one, and those after it
 pub left-before : (a : Array) (i j : ℕ) → a.element_size ≡ 0 → i < length a.elements → j ≤ i → element_at (without_element a i) j + 2 ≡ element_at a j
 left-before a i j none fits h =
     let b = without_element a i in
@@ -39,7 +39,7 @@ left-behind a i j none fits h =
       length-remove a.elements i fits,
     )
 
--- what is behind an offset is the same in lists that differ before it
+-- two lists that differ only before an offset are equal after it
 pub same-behind : (xs ys : List ℕ) (n : ℕ) → length xs ≡ length ys → ((k : ℕ) → n ≤ k → k < length ys → get_or xs k 0 ≡ get_or ys k 0)
     → drop n xs ≡ drop n ys
 same-behind xs ys n long same =

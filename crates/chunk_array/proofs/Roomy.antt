@@ -78,7 +78,7 @@ openable bytes before a shape place h none =
           omega (arith, e, o, (element-bounds before a j m.reads).1, m.long, more, h.few));
     }
 
--- and the new array is spelled
+-- the bytes encode the new array, if the sizes of elements vary
 pub spelled-varying : (bytes new done before : List ℕ) (a : Array) (shape : Shape) (place : ElementPlace) (w : ℕ)
     → HasRoom bytes before a shape place → shape.element_size ≡ 0
     → OpensTable bytes new shape.count place.index place.begin place.len → w ≡ shape.count + 1 → done ≡ with_word new 0 w

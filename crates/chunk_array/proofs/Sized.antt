@@ -17,7 +17,7 @@ equal-sized k (suc n) bytes h =
     All-cons (λ x. length x ≡ k) (take k bytes) (equal_parts k n (drop k bytes)) (omega (arith, length-take k bytes, e, h))
     (equal-sized k n (drop k bytes) (omega (arith, length-drop k bytes, e, h)))
 
--- an array that bytes spell
+-- an array that bytes encode has legal sizes
 pub read-sized : (bytes : List ℕ) (a : Array) → arr bytes ≡ Some a → IsSized a
 unfolding arr
 read-sized bytes a is = elim (cases_Bool (is_array bytes)) [

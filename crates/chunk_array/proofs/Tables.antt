@@ -39,8 +39,7 @@ shifts-more b d e from j less more w s order fits made small is =
       ]));
     }
 
--- the offsets before an index stay where bytes from there on move up by 2, and those behind
--- it move with them
+-- if the bytes from an index on move up by 2, the offsets before the index stay, and those after it move along
 pub low-stays : (b b1 : List ℕ) (i m j : ℕ) → b1 ≡ with_part b (8 + 2 * i + 2) (part b (8 + 2 * i) m) → j < i → offset b1 j ≡ offset b j
 low-stays b b1 i m j made h = ap (λ x. offset x j) made ∙ word-part_other b (8 + 2 * i + 2) (part b (8 + 2 * i) m) (8 + 2 * j) (inl (omega arith))
 
@@ -95,8 +94,7 @@ opens b b1 b2 b3 b4 count i at n order table room small made1 s2 made3 s4 =
       rest = (λ j k e g r. let same : j ≡ k = omega arith in behind j (omega arith) ∙ high1 j (omega arith) ∙ ap (λ q. get_or b q 0) same);
     }
 
--- the offsets before an index stay where bytes behind it move down by 2, and those behind it
--- move with them
+-- if the bytes after an index move down by 2, the offsets before the index stay, and those after it move along
 pub low-kept : (b b1 : List ℕ) (i m j : ℕ) → b1 ≡ with_part b (8 + 2 * i) (part b (8 + 2 * i + 2) m) → j < i → offset b1 j ≡ offset b j
 low-kept b b1 i m j made h = ap (λ x. offset x j) made ∙ word-part_other b (8 + 2 * i) (part b (8 + 2 * i + 2) m) (8 + 2 * j) (inl (omega arith))
 

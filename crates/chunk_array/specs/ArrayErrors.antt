@@ -6,7 +6,7 @@ use Rattle.geos_terms.specs.Refusals.{first_refusal}
 use Rattle.chunk_array.specs.declared.error.ArrayError.{ArrayError}
 use Rattle.chunk_array.specs.declared.error.ArrayError.TheVariants.{BadChunk, BadArray}
 
--- of these tests the first that holds is the error's
+-- the error is that of the first of these tests that refuses
 abbrev pub IsArrayError : ArrayError → List (Bool × Refusal) → Type 0
 IsArrayError BadChunk tests = first_refusal tests ≡ Some refusals.BadChunk
 IsArrayError BadArray tests = first_refusal tests ≡ Some refusals.BadArray

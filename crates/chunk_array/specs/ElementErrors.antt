@@ -6,7 +6,7 @@ use Rattle.geos_terms.specs.Refusals.{first_refusal}
 use Rattle.chunk_array.specs.declared.error.ElementError.{ElementError}
 use Rattle.chunk_array.specs.declared.error.ElementError.TheVariants.{BadChunk, BadArray, BadElement}
 
--- of these tests the first that holds is the error's
+-- the error is that of the first of these tests that refuses
 abbrev pub IsElementError : ElementError → List (Bool × Refusal) → Type 0
 IsElementError BadChunk tests = first_refusal tests ≡ Some refusals.BadChunk
 IsElementError BadArray tests = first_refusal tests ≡ Some refusals.BadArray

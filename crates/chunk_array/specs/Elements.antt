@@ -1,4 +1,4 @@
--- Where elements stand in a block.
+-- Where elements lie in a block.
 use Rattle.std.specs.Prelude.{◌≡◌, ℕ, ◌+◌, ◌≤◌, List, length}
 use Rattle.lmem_raw.specs.Bytes.{part}
 use Rattle.geos_terms.specs.Block.{chunks, IsPlaced}
@@ -9,7 +9,7 @@ use Rattle.geos_terms.specs.ArrayEdits.{refer_element, element_of}
 abbrev pub part_of : List ℕ → ℕ → ℕ → Part
 part_of block c i = (refer_element c i 0 (chunks block)).answer
 
--- the element stands there, in its chunk's place
+-- the element lies at this offset, within its chunk
 pub record HasElement (block : List ℕ) (c i at len : ℕ) : Type 0 where
   pub begin : ℕ
   pub whole : ℕ

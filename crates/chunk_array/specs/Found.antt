@@ -6,7 +6,7 @@ use Rattle.geos_terms.specs.Chunks.{chunk_of}
 use Rattle.chunk_array.specs.declared.look.Found.{Found}
 use Rattle.chunk_array.specs.Shapes.{HasShape}
 
--- the chunk's bytes stand there, and spell an array of this shape
+-- the chunk's bytes lie at this place, and encode an array of this shape
 pub record IsFound (block : List ℕ) (c : ℕ) (found : Found) : Type 0 where
   pub place : IsPlaced block c found.at found.len
   pub within : found.at + found.len ≤ length block

@@ -9,15 +9,15 @@ use Rattle.chunk_array.specs.declared.error.AppendError.TheVariants as append
 use Rattle.chunk_array.specs.declared.error.GrowthError.{GrowthError}
 use Rattle.chunk_array.specs.declared.error.GrowthError.TheVariants.{BadChunk, BadArray, BadElement, Room}
 
--- of these tests the first that holds is the error's; or none holds, and a block of this size
--- has no room where so much is needed
+-- the error is that of the first of these tests that refuses; or none
+-- refuses, and a block of this size has no room for what is needed
 abbrev pub IsGrowthError : GrowthError → List (Bool × Refusal) → ℕ → ℕ → Type 0
 IsGrowthError BadChunk tests needed size = first_refusal tests ≡ Some refusals.BadChunk
 IsGrowthError BadArray tests needed size = first_refusal tests ≡ Some refusals.BadArray
 IsGrowthError BadElement tests needed size = first_refusal tests ≡ Some refusals.BadElement
 IsGrowthError (Room room) tests needed size = (first_refusal tests ≡ None) × IsRoomError room needed size
 
--- why no element was appended, as calls say it that name an element
+-- the error of an append, as an error of calls that name an element
 abbrev pub as_growth_error : AppendError → GrowthError
 as_growth_error append.BadChunk = BadChunk
 as_growth_error append.BadArray = BadArray

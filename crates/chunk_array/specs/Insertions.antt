@@ -1,4 +1,4 @@
--- Bytes into which an element is to be put.
+-- Bytes of an array with room for a new element.
 use Rattle.std.specs.Prelude.{◌≡◌, ℕ, ◌+◌, ◌<◌, ◌≤◌, ◌==◌, if◌then◌else◌, List, length, slice_index, Some}
 use Rattle.geos_terms.specs.Chunks.{with_zeros}
 use Rattle.geos_terms.specs.Arrays.{Array, arr, element_at}
@@ -6,7 +6,7 @@ use Rattle.geos_terms.specs.Heap.{most_block_bytes}
 use Rattle.chunk_array.specs.declared.shape.ElementPlace.{ElementPlace}
 use Rattle.chunk_array.specs.declared.shape.Shape.{Shape}
 
--- what a new element takes, with its offset where sizes vary
+-- the bytes that a new element needs, including its offset if sizes vary
 abbrev pub room_of : ℕ → ℕ → ℕ
 room_of element_size n = if element_size == 0 then n + 2 else element_size
 
@@ -21,7 +21,7 @@ pub record HasRoom (bytes before : List ℕ) (a : Array) (shape : Shape) (place 
   pub made : bytes ≡ with_zeros before place.begin (room_of shape.element_size place.len)
   pub few : length bytes ≤ most_block_bytes
 
--- they are such bytes
+-- the bytes are those of some array with such room
 pub record IsRoomy (bytes : List ℕ) (shape : Shape) (place : ElementPlace) : Type 0 where
   pub before : List ℕ
   pub array : Array

@@ -19,18 +19,17 @@ pub record HasPart (bytes : List ℕ) (a : Array) (shape : Shape) (place : Eleme
   pub ends : place.begin + place.len ≡ element_at a (place.index + 1)
   pub few : length bytes ≤ most_block_bytes
 
--- they are such bytes
+-- the bytes are those of some array with such an element
 pub record IsParted (bytes : List ℕ) (shape : Shape) (place : ElementPlace) : Type 0 where
   pub array : Array
   pub has : HasPart bytes array shape place
 
--- without the bytes that an element took, with its offset, the bytes spell the array without
--- it
+-- without the bytes of an element and its offset, the bytes encode the array without the element
 pub record SpellsWithout (bytes : List ℕ) (a : Array) (shape : Shape) (place : ElementPlace) : Type 0 where
   pub rest : (room : ℕ) → room ≡ room_of shape.element_size place.len
       → without_part bytes (place.begin + place.len - room) room ≡ spelled (without_element a place.index)
 
--- a chunk has such bytes now, as many as it had
+-- a chunk now has bytes that encode the array without the element, with the same length as before
 pub record Excludes (old new : List ℕ) (c : ℕ) (was : List ℕ) (a : Array) (shape : Shape) (place : ElementPlace) : Type 0 where
   pub bytes : List ℕ
   pub long : length bytes ≡ length was

@@ -1,4 +1,4 @@
--- Changes of the table of offsets, and of what stands behind it.
+-- Changes of the table of offsets and of the elements after it.
 use Rattle.std.specs.Prelude.{◌≡◌, ℕ, ◌+◌, ◌*◌, ◌<◌, ◌≤◌, ◌⊎◌, List, length, slice_index}
 use Rattle.geos_terms.specs.Bytes.{word, IsShifted}
 
@@ -13,8 +13,8 @@ pub record ShiftsOffsets (old new : List ℕ) (from to less more : ℕ) : Type 0
   pub moved : (j : ℕ) → from ≤ j → j < to → offset new j + less ≡ offset old j + more
   pub rest : (k : ℕ) → (k < 8 + 2 * from) ⊎ (8 + 2 * to ≤ k) → slice_index new k ≡ slice_index old k
 
--- offset i is that of a new element, for which n bytes lie behind the first i ones. What they
--- have stands 2 higher, for the offset, and what is behind them stays
+-- entry i of the table is the offset of a new element of n bytes, placed after the first i elements.
+-- Those move up by 2 because of the new entry; the bytes after the new element do not move.
 pub record OpensTable (old new : List ℕ) (count i at n : ℕ) : Type 0 where
   pub long : length new ≡ length old
   pub head : (k : ℕ) → k < 8 → slice_index new k ≡ slice_index old k
@@ -24,8 +24,8 @@ pub record OpensTable (old new : List ℕ) (count i at n : ℕ) : Type 0 where
   pub middle : IsShifted old new 0 2 (8 + 2 * count) at
   pub rest : IsShifted old new 0 0 (at + 2) (length old)
 
--- offset i is taken out, with the n bytes of its element that begin at `at`. What the elements
--- before it have stands 2 lower, and what is behind them stays
+-- entry i of the table is removed, with the n bytes of its element at `at`.
+-- The elements before it move down by 2; the bytes after it do not move.
 pub record ClosesTable (old new : List ℕ) (count i at n : ℕ) : Type 0 where
   pub long : length new ≡ length old
   pub head : (k : ℕ) → k < 8 → slice_index new k ≡ slice_index old k

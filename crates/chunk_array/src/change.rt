@@ -15,8 +15,8 @@ use crate::table::{close_table, open_table, shift_offsets};
 use lmem_block::put16;
 use lmem_heap::place;
 
-/// Encodes an array with a new element of zeros in a chunk that has the room for it at its place.
-/// Its length is not used where elements have one size.
+/// Encodes an array with a new element of zeros in a chunk that has the room for
+/// it at its place. If elements have one size, the element's length is not used.
 pub(crate) fn put_element(block: &mut [u8], chunk: u16, shape: Shape, element: ElementPlace)
     requires heap { IsHeap block.old }
     requires room { IsSomeAnd (chunk_of (chunks block.old) chunk) (λ bytes. IsRoomy bytes shape element) }
@@ -87,7 +87,7 @@ fn spell_removed(bytes: &mut [u8], shape: Shape, element: ElementPlace)
     put16(bytes, COUNT, shape.count - 1);
 }
 
-/// Makes the offsets right after an element that has n bytes in place of those that it had.
+/// Corrects the offsets after an element that now has n bytes.
 pub(crate) fn put_offsets(
     block: &mut [u8],
     chunk: u16,
@@ -111,7 +111,7 @@ pub(crate) fn put_offsets(
     spell_refitted(&mut block[begin..begin + len as usize], shape, element, n);
 }
 
-/// Encodes an array in which an element has n bytes in place of those that it had.
+/// Encodes an array in which an element now has n bytes.
 fn spell_refitted(bytes: &mut [u8], shape: Shape, element: ElementPlace, n: usize)
     requires refit { IsRefitted bytes.old shape element n }
     requires small { (element.len ≤ 65535) × (n ≤ 65535) }

@@ -1,4 +1,4 @@
-//! Why calls refuse. After a refusal the block is as it was.
+//! Why calls refuse. After a refusal the block is unchanged.
 
 use lmem_heap::RoomError;
 use thiserror::Error;

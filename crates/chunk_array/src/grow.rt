@@ -1,4 +1,4 @@
-//! Elements that come.
+//! Adding elements.
 ghost use Rattle.std.specs.Prelude.{◌≡◌, ◌≤◌, length, IfErr, OnErr, OnOk};
 ghost use Rattle.geos_terms.specs.Arrays.{with_element};
 ghost use Rattle.geos_terms.specs.ArrayEdits.{append_element, array_of, insert_element, with_array};
@@ -78,8 +78,8 @@ pub fn insert(block: &mut [u8], chunk: u16, index: u16, len: u16) -> Result<(), 
     }
 }
 
-/// Puts an element of n zero bytes at an index. All room is made first, by one `insert` of
-/// bytes where the element is to begin.
+/// Inserts an element of n zero bytes at an index. It makes all room
+/// first, by one `insert` of bytes at the place of the element.
 fn insert_at(
     block: &mut [u8],
     chunk: u16,

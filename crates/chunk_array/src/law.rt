@@ -21,8 +21,8 @@ pub fn arrays_are_read_back()
     ensures once { (bytes : List ℕ) (a : Array) → AreBytes bytes → arr bytes ≡ Some a → spelled a ≡ bytes }
 {}
 
-/// Edits of arrays leave elements their size, where they have one; other bytes as an element
-/// have to have it.
+/// Edits of arrays do not change the size of elements, if they
+/// have one; bytes that replace an element must have this size.
 pub fn edits_keep_sizes()
     ensures by_empty { (k : ℕ) → IsSized (empty k) }
     ensures by_insert { (a : Array) (i n : ℕ) → IsSized a → IsSized (with_element a i n) }

@@ -39,7 +39,7 @@ impl Found {
             .start(&block[begin..begin + self.len as usize], index)
     }
 
-    /// Where an element lies.
+    /// The place of an element.
     pub(crate) fn place(self, block: &[u8], index: usize) -> ElementPlace
         requires within { self.at + self.len ≤ length block.now }
         requires shape { HasShape (part block.now self.at self.len) self.shape }

@@ -54,8 +54,8 @@ pub fn resize_element(block: &mut [u8], chunk: u16, index: u16, len: u16) -> Res
     Ok(())
 }
 
-/// Gives n bytes to the part of a chunk at an offset that has `has`: its first ones that fit,
-/// and zeros after them. All room is made first.
+/// Resizes the part of a chunk at an offset from `has` bytes to n: keeps
+/// its first bytes that fit, and adds zeros. All room is made first.
 fn resize_part(block: &mut [u8], c: u16, at: usize, has: usize, n: u16) -> Result<(), RoomError>
     requires heap { IsHeap block.old }
     requires chunk { IsSome (chunk_of (chunks block.old) c) }

@@ -1,4 +1,4 @@
-//! What the bytes of a chunk say of the array that they encode.
+//! The shape of the array that the bytes of a chunk encode.
 ghost use Rattle.std.specs.Prelude.{◌≡◌, ◌+◌, ◌*◌, ◌<◌, ◌≤◌, length, MatchOption};
 ghost use Rattle.geos_terms.specs.Arrays.{Array, arr, are_offsets, element_at, words_from};
 
@@ -15,7 +15,7 @@ pub(crate) const ZERO: usize = 4;
 /// The header's length, 8.
 pub(crate) const HEADER_SIZE: usize = 6;
 
-/// Where the header ends.
+/// The offset at which the header ends.
 pub(crate) const HEADER: usize = 8;
 
 /// How many elements an array has, and of which size.
@@ -26,7 +26,7 @@ pub(crate) struct Shape {
     pub(crate) element_size: u16,
 }
 
-/// Where an element lies in the bytes of an array.
+/// The place of an element in the bytes of an array.
 #[derive(Clone, Copy)]
 pub(crate) struct ElementPlace {
     pub(crate) index: usize,
@@ -64,7 +64,7 @@ impl Shape {
         }
     }
 
-    /// What a new element of n bytes takes, with its offset where sizes vary.
+    /// The bytes that a new element of n bytes needs, including its offset if sizes vary.
     pub(crate) fn room(self, n: u16) -> usize
         ensures value { result ≡ room_of self.element_size n }
         ensures small { result ≤ 65537 }
@@ -94,8 +94,8 @@ impl Shape {
     }
 }
 
-/// Whether the words after the header are offsets of so many elements, that fill the bytes.
-/// It stays out of those that call it, which are short where elements have one size.
+/// Whether the words after the header are offsets of so many elements that fill the
+/// bytes. Not inlined, because its callers are short if elements have one size.
 #[inline(never)]
 fn are_offsets(bytes: &[u8], count: usize) -> bool
     requires header { 8 ≤ length bytes.now }

@@ -24,8 +24,8 @@ pub(crate) fn rising_offsets(bytes: &[u8], count: usize) -> usize
     RUN * runs + 1
 }
 
-/// Whether none of the offsets after this one, a run of them, is below the one before it. It
-/// reads all of them, with no branch on the way, so that they can be compared together.
+/// Whether none of the offsets after this one, a run of them, is below the one before
+/// it. It reads all of them without a branch, so that they can be compared together.
 fn is_rising_run(bytes: &[u8], from: usize) -> bool
     requires { 8 + 2 * (from + RUN + 1) ≤ length bytes.now }
     ensures { IsTrue result → (j : ℕ) → from ≤ j → j < from + RUN → offset bytes.now j ≤ offset bytes.now (j + 1) }
@@ -53,9 +53,8 @@ pub(crate) fn shift_offsets(bytes: &mut [u8], from: usize, to: usize, less: usiz
     }
 }
 
-/// Puts an offset into the table at an index, for a new element of n bytes. There are n + 2
-/// bytes at `at`, where it is to begin: the elements before it move up by 2, over the first of
-/// them.
+/// Inserts an offset into the table at an index, for a new element of n bytes. There are n + 2 bytes at
+/// `at`, the place of the element: the elements before it move up by 2, over the first of these bytes.
 pub(crate) fn open_table(bytes: &mut [u8], count: usize, i: usize, at: usize, n: usize)
     requires order { i ≤ count }
     requires table { 8 + 2 * count ≤ at }
@@ -71,9 +70,8 @@ pub(crate) fn open_table(bytes: &mut [u8], count: usize, i: usize, at: usize, n:
     shift_offsets(bytes, i + 1, count + 1, 0, n + 2);
 }
 
-/// Takes an offset out of the table, with the n bytes of its element, which begins at `at`.
-/// The elements before it move down by 2, and those after it stay: n + 2 bytes before
-/// them are not used then.
+/// Removes an offset from the table, with the n bytes of its element at `at`. The elements
+/// before it move down by 2, and those after it stay: then n + 2 bytes before them are unused.
 pub(crate) fn close_table(bytes: &mut [u8], count: usize, i: usize, at: usize, n: usize)
     requires order { i < count }
     requires table { 8 + 2 * count ≤ at }

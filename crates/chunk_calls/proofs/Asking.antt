@@ -1,4 +1,4 @@
--- No call refuses for want of room by its own tests.
+-- No call fails for lack of room by its own tests.
 use Rattle.std.proofs.Common.{◌≡◌, ℕ, Bool, true, false, List, [], ◌∷◌, Option, Some, None, cond, refl, subst}
 use Rattle.geos_terms.specs.declared.refusal.Refusal.{Refusal}
 use Rattle.geos_terms.specs.declared.refusal.Refusal.TheVariants.{NoRoom}
@@ -10,7 +10,7 @@ use Rattle.geos_calls.specs.declared.call.Make.{Make}
 use Rattle.geos_calls.specs.declared.call.Make.TheVariants.{Lalloc, Canew}
 use Rattle.geos_calls.specs.ChunkCalls.{change_edit, make_edit}
 
--- an edit never refuses for want of room itself
+-- the tests of an edit never report lack of room
 abbrev pub AsksNoRoom : {A : Type 0} → (List (Option (List ℕ)) → Edit A) → Type 0
 AsksNoRoom edit = (cs : List (Option (List ℕ))) → first_refusal (edit cs).refusals ≡ Some NoRoom → ⊥
 

@@ -57,7 +57,7 @@ module _ {D A : Type 0} (v : VmState D) (edit : List (Option (List ℕ)) → Edi
         (same-error {A = A} why refusal.NoRoom e) t.0));
   }
 
-  -- the room that an edit wants was made: others were discarded, and the block has grown
+  -- the room for an edit was made: other blocks were evicted, and the block has grown
   record Made (grown : Store) : Type 0 where
     mid : Store
     thins : Thins v old mid (own_handle name)
@@ -70,7 +70,7 @@ module _ {D A : Type 0} (v : VmState D) (edit : List (Option (List ℕ)) → Edi
 
   -- it wanted room
   module _ (r : RoomError) (grown : Store) (first : Tries edit old old name (Err (Room r))) where
-    -- what it asks for is asked of any block with the same bytes
+    -- the room that it needs is the same for any block with the same bytes
     asked-on : (mid : Store) → block_at mid (slot_of name) ≡ block_at old (slot_of name) → (x : RoomError)
         → IsObstacle (Room x) (edit (chunks_at old name)) (size_at old name)
         → IsObstacle (Room x) (edit (chunks_at mid name)) (size_at mid name)
@@ -180,7 +180,7 @@ module _ {D A : Type 0} (v : VmState D) (grows : Bool) (edit : List (Option (Lis
   pub carries-grown : (r : Result A Refusal) → grows ≡ true → DiscardsAndEdits v edit old new name r → Carries grows v edit old new name r
   carries-grown r is c = rw is c
 
--- only one that may grow wants room
+-- only a call whose block may grow reports that it needs room
 pub own-grows : (grows : Bool) (r : RoomError) → IsOwn grows (Err (Room r)) → grows ≡ true
 own-grows true r h = refl
 own-grows false r h = absurd h

@@ -1,5 +1,4 @@
--- Where one block changes and others are discarded, the file stays tied, and the model's memory
--- has the change.
+-- If one block changes and others are evicted, the file stays tied, and the model's memory has the change.
 use Rattle.std.proofs.Common.{◌≡◌, ◌≢◌, ℕ, ◌<◌, length, length-take, map, take, Option, Some, None, true, false, refl, sym, ap, ◌∙◌, arith, inl, inr, subst}
 use Rattle.std.specs.Prelude.{option_map}
 use Rattle.std.proofs.lemmas.Bool.{cases_eq}
@@ -89,7 +88,7 @@ module _ {D : Type 0} (medium : Medium D) (v : VmState D) (s t : Store) (h : ℕ
     maps = tied.maps;
   }
 
-  -- another block stands under the handle, or none
+  -- a handle of global memory has another block, or none
   pub mem-changed : (m : Memory) → IsMemoryOf medium v s m → (x : Option ModelBlock) → x ≡ block_in (block_at t (slot_of (mem h)))
       → IsMemoryOf medium v t (with_block m (mem h) x)
   mem-changed m is x same = record {
@@ -97,6 +96,7 @@ module _ {D : Type 0} (medium : Medium D) (v : VmState D) (s t : Store) (h : ℕ
         (length-with_entry_at m.blocks h x ∙ long) now-long (λ k q. each k q);
     file = file-kept medium v s t 0 tied m.file (λ k q. keeps.each (vm_slot k) (apart k q)) is.file;
     region = is.region ∙ ap (λ l. l.most) (sym keeps.len);
+    handles = is.handles ∙ ap (λ l. l.handles) (sym keeps.len);
   }
     where
       long : length m.blocks ≡ 1024

@@ -137,7 +137,7 @@ module _ {E : Type 0} (edit : List (Option (List ℕ)) → Edit (Unit {0})) (old
   lent (Ok done) ok refused same = lent-tried edit old name there ws was value long heap handle tt refl ok.0 ok.1
   lent (Err error) ok refused same = lent-map_err edit old name there ws was value (why error) refused same
 
--- one that makes a chunk, which is refused room alone
+-- a call that makes a chunk is refused only for lack of room
 pub lent-made : (edit : List (Option (List ℕ)) → Edit ℕ) (old : Store) (name : Name) → IsThere old (slot_of name)
     → (ws was : List ℕ) → was ≡ bytes_of old (slot_of name) → length ws ≡ length was → IsHeap ws
     → block.handle_word ws ≡ block.handle_word was → (edit (block.chunks was)).refusals ≡ [] → (r : Result ℕ RoomError)
@@ -186,7 +186,7 @@ module _ (cs : List (Option (List ℕ))) (size c : ℕ) where
   delete-hinders at n delete.BadChunk h = chunk-absent cs c ((nat_lt (edits.length_of cs c) (at + n), refusal.Range) ∷ []) h
   delete-hinders at n delete.Range h = offset-past cs c (at + n) h.0 h.1
 
--- what only refuses is not for want of room
+-- an error that is a refusal does not request room
 pub own-refused : {E : Type 0} (why : E → Refusal) (r : Result (Unit {0}) E) → IsOwn false (map_err (λ error. Refused (why error)) r)
 own-refused why (Ok done) = tt
 own-refused why (Err error) = tt

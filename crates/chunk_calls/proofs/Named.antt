@@ -41,7 +41,7 @@ slot_of-past owner h (inr past) = grind (arith, nat_tests)
 pub slotless : (s : Store) → IsLaidOut s → (owner : Owner) (h : ℕ) → (h ≡ 0) ⊎ (1024 < h) → block_at s (slot_of (named owner h)) ≡ None
 slotless s laid owner h past = ap (block_at s) (slot_of-past owner h past) ∙ get_or_past s.blocks 2048 None (omega (arith, laid.slots))
 
--- the slots of global memory spell, under each handle, what its slot has
+-- under each handle, the slots of global memory encode what the handle's slot has
 pub slots-told : (s : Store) → IsLaidOut s → (h : ℕ) → model.at_handle None (map block_in (take 1024 s.blocks)) h ≡ block_in
     (block_at s (slot_of (mem h)))
 slots-told s laid h = elim (handle-or {X = ℕ} 0 h) [
@@ -67,7 +67,7 @@ locks-spelled None = refl
 locks-spelled (Some b) = refl
 
 module _ {D : Type 0} (medium : Medium D) (v : VmState D) (s : Store) (tied : IsTied medium v s) (m : Memory) (is : IsMemoryOf medium v s m) where
-  -- of a handle of global memory it has what the slot spells, or nothing
+  -- under a handle of global memory, the model has what the slot encodes, or nothing
   pub mem-known : (h : ℕ) → model.block_of m (mem h) ≡ block_in (block_at s (slot_of (mem h)))
   mem-known h = ap (λ bs. model.at_handle None bs h) is.blocks ∙ slots-told s tied.laid h
 
@@ -79,7 +79,7 @@ module _ {D : Type 0} (medium : Medium D) (v : VmState D) (s : Store) (tied : Is
       at Mem h = ap model.locks_in (mem-known h) ∙ locks-spelled (block_at s (slot_of (mem h)))
       at Vm h = locks-told medium v s h tied m is
 
-  -- what a block in memory spells
+  -- the model has what a block in memory encodes
   pub block-known : (name : Name) (b : Block) → block_at s (slot_of name) ≡ Some b → model.block_of m name ≡ Some (spelled b.locks b.bytes)
   block-known name b there = at name.owner name.h there
     where

@@ -75,7 +75,7 @@ module _ (old mid : Store) (slot size : ℕ) (there : IsThere old slot) (g : Gro
   grown-size less = ap length grown-bytes ∙ length-append (bytes_of old slot) (replicate (size - size_of old slot) 0)
       ∙ omega (arith, length-replicate {A = ℕ} (size - size_of old slot) 0, less)
 
-  -- in front stand its own bytes
+  -- the bytes of the grown block begin with its old bytes
   pub grown-front : (was : List ℕ) (old_size : ℕ) → old_size ≡ size_of old slot → was ≡ bytes_of mid slot → take old_size was ≡ bytes_of old slot
   grown-front was old_size same value =
       ap (take old_size) (value ∙ grown-bytes) ∙ ap (λ n. take n (bytes_of old slot ++ replicate (size - size_of old slot) 0)) same

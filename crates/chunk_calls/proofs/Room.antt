@@ -32,7 +32,7 @@ module _ (f : List (Option (List ℕ)) → List (Option (List ℕ))) (old grown 
     room-size : size_at grown name ≡ needed
     room-size = rechunked-size old grown (slot_of name) there (chunks_at old name) needed made
 
-    -- then the heap does not ask for room again
+    -- then the heap does not request room again
     pub asks-once : (again : RoomError) → IsRoomError again (need (f (chunks_at grown name))) (size_at grown name) → ⊥
     asks-once room.TooBig a = omega (arith, subst (λ cs. 65520 < need (f cs)) room-chunks a, small)
     asks-once (room.NeedMore k) a = omega (arith, subst (λ cs. size_at grown name < need (f cs)) room-chunks a.1, room-size)

@@ -63,7 +63,7 @@ module _ {D : Type 0} (medium : Medium D) (v : VmState D) (s : Store) (tied : Is
       at Mem h there own = absurd cc
       at Vm h there own = few-locks medium v s h tied m is there 0 (omega arith)
 
-  -- where no stretch has room, and no other block may be discarded, room may be wanting
+  -- if no stretch has room, and no other block may be evicted, the model may lack room
   pub tight-named : (name : Name) (size : ℕ) → IsHandle name.h → NoneIdle v s (own_handle name) → IsCrowded s (slot_of name) size
       → is_tight m name size ≡ true
   tight-named name size p none crowded = at name.owner none crowded
@@ -112,7 +112,7 @@ module _ {D : Type 0} (medium : Medium D) (v : VmState D) where
   willing-row call r s t comes m is = let c = comes m is in (willing, willing-chosen medium v.file.device v.file.device, c.0, c.1, c.2)
 
   module _ {A : Type 0} (edit : List (Option (List ℕ)) → Edit A) (s : Store) (name : Name) (tied : IsTied medium v s) (holds : HoldsHeap s name) where
-    -- what holds of the chunks that the block spells holds of those that the model knows
+    -- what is true of the chunks that the block encodes is true of those that the model has
     known : (m : Memory) → IsMemoryOf medium v s m → edit (chunks_at s name) ≡ edit (model.chunks_at m name)
     known m is = ap edit (sym (chunks-known medium v s tied m is name holds.there))
 
@@ -153,7 +153,7 @@ module _ {D : Type 0} (medium : Medium D) (v : VmState D) where
           → DoesRow medium (table.changes edit name) r v s v t
       changes-row r h are = alone-does medium (table.changes edit name) r v s t (changes-alone r h are)
 
-      -- the room that it needs is wanting
+      -- the room that it needs is missing
       lacks-alone : t ≡ s → (why : Refusal) → first_refusal (edit (chunks_at s name)).refusals ≡ None
           → heaps.CannotHold why s name (edit (chunks_at s name)).chunks
           → (◌≡◌ {A = Result A Refusal} (Err why) (Err refusal.NoRoom) → NoneIdle v t (own_handle name))

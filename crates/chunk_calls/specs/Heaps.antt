@@ -1,4 +1,4 @@
--- The heap of one block: what other chunks in it make of all blocks, and where it lacks room.
+-- The heap of one block: changes of its chunks as changes of the store, and lack of room.
 use Rattle.std.specs.Prelude.{◌≡◌, ℕ, ◌%◌, ◌<◌, ◌≤◌, max, List, length, set, Option, Some, Result, Err, OnOk, IfErr}
 use Rattle.geos_terms.specs.declared.name.Name.{Name}
 use Rattle.block_handles.specs.Names.{slot_of}
@@ -17,7 +17,7 @@ use Rattle.geos_terms.specs.declared.refusal.Refusal.TheVariants.{TooBig, NoRoom
 use Rattle.vm_blocks.specs.Room.{DiscardsForRoom, NoneIdle, Thins, own_handle}
 use Rattle.vm_blocks.specs.View.{VmState}
 
--- the chunks that the bytes of a named block spell
+-- the chunks that the bytes of a named block encode
 abbrev pub chunks_at : Store → Name → List (Option (List ℕ))
 chunks_at s name = block.chunks (store.bytes_of s (slot_of name))
 
@@ -25,13 +25,13 @@ chunks_at s name = block.chunks (store.bytes_of s (slot_of name))
 abbrev pub size_at : Store → Name → ℕ
 size_at s name = store.size_of s (slot_of name)
 
--- a named block is there, and holds a heap
+-- a named block is in memory, and is a heap
 pub record HoldsHeap (s : Store) (name : Name) : Type 0 where
   pub there : IsThere s (slot_of name)
   pub heap : IsHeap (store.bytes_of s (slot_of name))
 
--- the block in a slot has other bytes, a heap of this size with these chunks and the same
--- handle; every other block is as it was, and lies where it lay if it is locked
+-- the block in a slot has other bytes: a heap of this size with these chunks and the
+-- same handle. Every other block is unchanged, and so is its place if it is locked.
 pub record Rechunks (old new : Store) (slot : ℕ) (chunks : List (Option (List ℕ))) (size : ℕ) : Type 0 where
   pub bytes : List ℕ
   pub blocks : new.blocks ≡ set old.blocks slot (Some (record { locks = locks_of old slot; bytes = bytes }))
@@ -47,10 +47,9 @@ pub record Rechunks (old new : Store) (slot : ℕ) (chunks : List (Option (List 
 abbrev pub Edits : Store → Store → Name → List (Option (List ℕ)) → Type 0
 Edits old new name chunks = Rechunks old new (slot_of name) chunks (size_at old name)
 
--- Calls that make the block larger where its heap needs more
+-- Calls that enlarge the block if its heap needs more room
 
--- the size that a heap asks for is a legal one, and more than the block has; or it asks for
--- more than a block can have
+-- the size that a heap requests is legal and larger than the block; or the heap needs more than a block can have
 abbrev pub AsksFor : RoomError → ℕ → Type 0
 AsksFor room.TooBig size = Unit {0}
 AsksFor (room.NeedMore k) size = (size < k) × (k ≤ most_block_bytes) × (k % 16 ≡ 0)
@@ -59,8 +58,8 @@ AsksFor (room.NeedMore k) size = (size < k) × (k ≤ most_block_bytes) × (k % 
 abbrev pub FindsNoRoom : Refusal → Store → Store → ℕ → ℕ → Type 0
 FindsNoRoom refusal old new slot size = (refusal ≡ NoRoom) × HasNoRoom old slot size × (new ≡ old)
 
--- blocks that can be read again were discarded where there was no room, and then a named block gets
--- this size; or no stretch of the region has room for it, though none of those is left
+-- while there was no room, blocks that can be read again were evicted. Then a named block gets
+-- this size; or no stretch of the region has room for it, although no block is left to evict.
 pub record Enlarges {D : Type 0} (v : VmState D) (old new : Store) (name : Name) (size : ℕ) (result : Result (Unit {0}) Refusal) : Type 0 where
   pub mid : Store
   pub thins : Thins v old mid (own_handle name)
@@ -69,7 +68,7 @@ pub record Enlarges {D : Type 0} (v : VmState D) (old new : Store) (name : Name)
   pub ok : OnOk result (Rechunks mid new (slot_of name) (chunks_at mid name) size)
   pub no_room : IfErr result (λ refusal. FindsNoRoom refusal mid new (slot_of name) size × NoneIdle v new (own_handle name))
 
--- room is made for what a heap asks for, or refused
+-- the call makes the room that a heap requests, or refuses it
 abbrev pub GivesRoom : {D : Type 0} → VmState D → RoomError → Result (Unit {0}) Refusal → Store → Store → Name → Type 0
 GivesRoom v room.TooBig result old new name = (result ≡ Err TooBig) × (new ≡ old)
 GivesRoom v (room.NeedMore k) result old new name = Enlarges v old new name k result
@@ -81,6 +80,6 @@ CannotHold TooBig s name chunks = most_block_bytes < need chunks
 CannotHold NoRoom s name chunks = (size_at s name < need chunks) × (need chunks ≤ most_block_bytes) × HasNoRoom s (slot_of name) (need chunks)
 CannotHold _ s name chunks = ⊥
 
--- a named block gets these chunks, and grows where they need more than it has
+-- a named block gets these chunks, and grows if they need more room than it has
 abbrev pub Regrows : Store → Store → Name → List (Option (List ℕ)) → Type 0
 Regrows old new name chunks = Rechunks old new (slot_of name) chunks (max (size_at old name) (need chunks))

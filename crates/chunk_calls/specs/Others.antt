@@ -1,4 +1,4 @@
--- What stays where one block changes: every other block, but those that are discarded.
+-- What stays if one block changes: every other block, unless it is evicted.
 use Rattle.std.specs.Prelude.{◌≡◌, ◌≢◌, ℕ, true}
 use Rattle.geos_terms.specs.declared.name.Name.{Name}
 use Rattle.geos_terms.specs.declared.name.Owner.TheVariants.{Vm}
@@ -12,13 +12,13 @@ use Rattle.vm_blocks.specs.Bring.{KeptOrGoes}
 use Rattle.vm_blocks.specs.Room.{own_handle}
 use Rattle.vm_blocks.specs.View.{VmState, held_at}
 
--- every block but a named one is as it was, and lies where it lay if it is locked; or it was discarded
+-- every block except a named one is unchanged, and so is its place if it is locked; or it was evicted
 pub record KeepsBut {D : Type 0} (v : VmState D) (old new : Store) (name : Name) : Type 0 where
   pub each : (slot : ℕ) → slot ≢ slot_of name → KeptOrGoes v old new (own_handle name) slot
   pub laid : IsLaidOut new
   pub len : new.len ≡ old.len
 
--- and the named one is there, locked as often as it was, a heap with the same handle word
+-- the same, and the named block is in memory, with the same lock count, and is a heap with the same handle word
 pub record KeepsOthers {D : Type 0} (v : VmState D) (old new : Store) (name : Name) : Type 0 where
   pub others : KeepsBut v old new name
   pub there : IsThere new (slot_of name)
@@ -26,6 +26,6 @@ pub record KeepsOthers {D : Type 0} (v : VmState D) (old new : Store) (name : Na
   pub heap : IsHeap (bytes_of new (slot_of name))
   pub handle : handle_word (bytes_of new (slot_of name)) ≡ handle_word (bytes_of old (slot_of name))
 
--- the bytes of a named block may change, and it stays tied: where it is one of the file, it is marked
+-- the bytes of a named block may change without breaking the tie: if it is a block of the file, it is marked
 abbrev pub IsMarkedIfVm : {D : Type 0} → VmState D → Name → Type 0
 IsMarkedIfVm v name = name.owner ≡ Vm → is_marked_in (held_at v name.h) ≡ true

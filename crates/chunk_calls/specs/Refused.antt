@@ -20,7 +20,7 @@ use Rattle.chunk_array.specs.declared.error.ElementError.TheVariants as element
 use Rattle.chunk_calls.specs.declared.obstacle.Obstacle.{Obstacle}
 use Rattle.chunk_calls.specs.declared.obstacle.Obstacle.TheVariants.{Refused, Room}
 
--- a result with another error in the place of its own
+-- a result with its error replaced
 abbrev pub map_err : {A E F : Type 0} → (E → F) → Result A E → Result A F
 map_err why (Ok answer) = Ok answer
 map_err why (Err error) = Err (why error)

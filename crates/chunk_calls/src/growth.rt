@@ -1,4 +1,4 @@
-//! Blocks that grow where their heaps need more room.
+//! Blocks that grow if their heaps need more room.
 
 ghost use Rattle.std.specs.Prelude.{◌≡◌, ◌<◌, ◌≤◌, ◌%◌};
 ghost use Rattle.geos_terms.specs.Heap.{most_block_bytes};
@@ -11,8 +11,8 @@ use lmem_heap::{RoomError, enlarged};
 use vm_blocks::{NoRoom, VmBlocks};
 use vm_file::Device;
 
-/// Makes a block larger, and what is new in it free. `NoRoom` if no stretch of the region
-/// has room for it, though all that may be were discarded.
+/// Enlarges a block, and frees the new bytes in its heap. `NoRoom` if no stretch
+/// of the region has room for it, although all idle blocks were evicted.
 fn enlarge<D: Device + Drop>(
     vm: &VmBlocks<D>,
     blocks: &mut Blocks,

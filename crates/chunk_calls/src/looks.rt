@@ -1,4 +1,4 @@
-//! What calls tell of the chunks of a heap.
+//! Calls that read the chunks of a heap.
 
 ghost use Rattle.std.specs.Prelude.{◌≡◌, ◌+◌, ◌≤◌, length, IfOk};
 ghost use Rattle.geos_terms.specs.Block.{chunks};

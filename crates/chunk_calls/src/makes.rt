@@ -16,10 +16,9 @@ use lmem_heap::RoomError;
 use vm_blocks::VmBlocks;
 use vm_file::Device;
 
-/// Makes a chunk in a block that is in memory, and answers its handle: the lowest one of the block
-/// that is free. The block grows, and others are discarded, as `change` has it; `TooBig` and
-/// `NoRoom` too. A block of the file is not marked by it.
-// Made in place, as a change is.
+/// Makes a chunk in a block that is in memory, and returns its handle: the lowest one of the block that is free. The
+/// block grows, and others are evicted, as in `change`; `TooBig` and `NoRoom` as there. It does not mark a block of the
+/// file. Inlined, as `change` is.
 #[inline(always)]
 pub fn make_chunk<D: Device + Drop>(
     vm: &VmBlocks<D>,

@@ -17,7 +17,7 @@ pub(crate) enum Obstacle {
     Room(RoomError),
 }
 
-/// Why no chunk was found, as the kernel says it.
+/// The kernel's refusal if no chunk was found.
 pub(crate) fn why_no_chunk(why: BadChunk) -> Refusal
     ensures { result ≡ why_no_chunk why }
 {
@@ -46,7 +46,7 @@ pub(crate) fn why_not_inserted(why: InsertError) -> Obstacle
     }
 }
 
-/// Why no bytes were deleted, as the kernel says it.
+/// The kernel's refusal if no bytes were deleted.
 pub(crate) fn why_not_deleted(why: DeleteError) -> Refusal
     ensures { result ≡ why_not_deleted why }
 {
@@ -79,7 +79,7 @@ pub(crate) fn why_not_grown(why: GrowthError) -> Obstacle
     }
 }
 
-/// Why no array was found, as the kernel says it.
+/// The kernel's refusal if no array was found.
 pub(crate) fn why_no_array(why: ArrayError) -> Refusal
     ensures { result ≡ why_no_array why }
 {
@@ -89,7 +89,7 @@ pub(crate) fn why_no_array(why: ArrayError) -> Refusal
     }
 }
 
-/// Why no element was found, as the kernel says it.
+/// The kernel's refusal if no element was found.
 pub(crate) fn why_no_element(why: ElementError) -> Refusal
     ensures { result ≡ why_no_element why }
 {

@@ -88,7 +88,7 @@ not_brought-locks s t g not = elim (no-block (block_at s (vm_slot g))) [
     gone None absent = refl
     gone (Some b) absent = absurd (absent tt)
 
--- What room is wanted
+-- The room that a call needs
 
 module _ {A : Type 0} (edit : List (Option (List ℕ)) → Edit A) where
   wanted-away : (P : ℕ → Type 0) (o : Option Held) (b : Option Block) → b ≡ None → IsSomeAnd o (λ e. e.uid ≡ group_uid)

@@ -1,4 +1,4 @@
--- Calls with tests in front of their own.
+-- Calls with tests before their own.
 use Rattle.std.proofs.Common.{◌≡◌, ◌∙◌, List, Option, Some, None, Bool, ◌++◌, refl, sym, ap}
 use Rattle.std.specs.Prelude.{Result, Ok, Err}
 use Rattle.geos_terms.specs.declared.refusal.Refusal.{Refusal}
@@ -24,7 +24,7 @@ module _ {A : Type 0} where
       let first : ◌≡◌ {A = Result A Refusal} (Err r) (Err why) = ap (λ p. p.0) e in
       let same : r ≡ why = cc in (ap Some same, ap left (sym same) ∙ ap (λ p. p.1) e)
 
--- a call that does something behind its own change, with these tests in front
+-- a call that does something after its own change, with these tests first
 module _ {A : Type 0} (tests : List (Bool × Refusal)) (passed : first_refusal tests ≡ None) (behind : Memory → Memory) (effect : Effect A) where
   -- what it comes to
   abbrev pub fronted : Result A Refusal × Memory

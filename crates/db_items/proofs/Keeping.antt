@@ -5,7 +5,7 @@ use Rattle.vm_blocks.specs.Bring.{Keeps, KeptOrGoes}
 use Rattle.vm_blocks.specs.Room.{is_idle_in}
 use Rattle.vm_blocks.specs.View.{VmState, held_at, vm_slot}
 
--- what is kept, and then kept where the same is listed under other handles, is kept
+-- what two steps each preserve is preserved by both, if the table between them is the same under other handles
 pub keeps-then : {D : Type 0} (v w : VmState D) (a b c : Store) (g : ℕ) → ((k : ℕ) → k ≢ g → held_at w k ≡ held_at v k)
     → Keeps v a b g → Keeps w b c g → Keeps v a c g
 keeps-then {D} v w a b c g same first later = record {

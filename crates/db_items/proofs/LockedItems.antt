@@ -37,7 +37,7 @@ use Rattle.db_items.proofs.Told.{group-listed, group-told, no_group-told}
 abbrev pub once_more : ℕ → Memory → Memory
 once_more g m = memory.with_locks m (vm g) (memory.locks_of m (vm g) + 1)
 
--- the tests that stand in front of those for the item
+-- the tests before those for the item
 abbrev pub lock_tests : ℕ → Choice → Memory → List (Bool × Refusal)
 lock_tests g choice m = no_group m g ∷ locks_full m (vm g) ∷ bringing choice m g
 

@@ -30,7 +30,7 @@ use Rattle.db_items.proofs.Asking.{refer-inside}
 use Rattle.db_items.proofs.Changing.{group-or, not_brought-locks, reads-on, refused-so}
 use Rattle.db_items.proofs.LockedItems.{lock_found-row, lock_full-row, lock_no_group-row, lock_not_brought-row, lock_refused-row}
 
--- an item is too short only where some bytes are wanted
+-- an item is too short only if the call requires some bytes
 short-wanted : (i n : ℕ) (cs : List (Option (List ℕ))) → first_refusal (refer i n cs).refusals ≡ Some refusal.Short → 0 < n
 short-wanted i zero cs e = absurd (tests (is_none (chunk_of cs i)) (nat_lt (length_of cs i) 0) (below (length_of cs i)) e)
   where

@@ -38,7 +38,7 @@ both first then = record {
   given = first.given;
 }
 
--- a call on chunks goes by the last room alone, and a refusal leaves memory as it was
+-- a call on chunks depends only on the later of two choices, and a refusal leaves memory unchanged
 pub record IsOnChunks {A : Type 0} (call : Call A) : Type 0 where
   pub by_room : (first then : Choice) (m : Memory) → call (both first then) m ≡ call then m
   pub left : (choice : Choice) (m : Memory) (why : Refusal) → (call choice m).left why ≡ m

@@ -19,8 +19,8 @@ IsGroup v g = IsSomeAnd (held_at v g) (λ e. e.uid ≡ group_uid)
 abbrev pub RefusesNoGroup : {D A : Type 0} → ℕ → Result A Refusal → VmState D → VmState D → Store → Store → Type 0
 RefusesNoGroup g result v w s t = (IsGroup v g → ⊥) → (result ≡ Err BadHandle) × (w ≡ v) × (t ≡ s)
 
--- a group is brought into memory as any block is, or refused; a handle of no group is. One that is
--- there is refused neither for want of room nor by the device
+-- a call loads a group into memory as any block is loaded, or refuses it; it refuses a handle that is no
+-- group. If the group is in memory, the call fails neither for lack of room nor because of the device.
 pub record BringsGroup {D : Type 0} (medium : Medium D)
     (g : ℕ) (result : Result (Unit {0}) Refusal) (v w : VmState D) (s t : Store) : Type 0 where
   pub brings : BringsBlock medium NoRoom Disk g result v w s t

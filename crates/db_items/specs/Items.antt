@@ -24,28 +24,27 @@ use Rattle.vm_blocks.specs.View.{VmState, held_at, vm_slot, with_device, with_he
 use Rattle.chunk_calls.specs.Edits.{Finds}
 use Rattle.db_items.specs.Groups.{RefusesNoGroup}
 
--- what a group needs for a call: its listed length where it is not in memory, else what its chunks
--- need after the call
+-- the bytes that a call needs for a group: its listed length if it
+-- is not in memory, otherwise what its chunks need after the call
 abbrev pub room_wanted : {A : Type 0} → (List (Option (List ℕ)) → Edit A) → Option Held → Option Block → ℕ
 room_wanted edit None b = 0
 room_wanted edit (Some e) None = e.len
 room_wanted edit (Some e) (Some b) = need (edit (chunks b.bytes)).chunks
 
--- no stretch of the region has room for that, as the call leaves it, though no other block is left
--- that may be discarded
+-- no stretch of the region has room for these bytes after the call, although no other block is left to evict
 pub record LacksItemRoom {D A : Type 0} (v : VmState D) (t : Store) (g : ℕ) (edit : List (Option (List ℕ)) → Edit A) : Type 0 where
   pub none : NoneIdle v t g
   pub no_room : HasNoRoom t (vm_slot g) (room_wanted edit (held_at v g) (block_at t (vm_slot g)))
 
--- what is listed after a call on a group, which is marked where it is done
+-- the table after a call on a group; the call marks the group if it succeeds
 abbrev pub listed_after : {D A : Type 0} → Result A Refusal → VmState D → ℕ → VmState D
 listed_after (Ok answer) v g = with_held v g (option_map marked (held_at v g))
 listed_after (Err why) v g = v
 
--- a call changes the chunks of a group, which it brings into memory first and marks behind it; every
--- other block is as it was, or was discarded. A refusal leaves the marks, the counts and a group that
--- was in memory as they were. A group that was there asks the device nothing, and no block goes where
--- there is room for what its chunks need; one that the device refuses is not there
+-- a call changes the chunks of a group: it loads the group into memory, changes it, and marks it. Every other
+-- block is unchanged or evicted. A refusal leaves marks, lock counts and a group in memory unchanged. If the
+-- group is in memory, the call does not use the device, and it evicts blocks only if there is no room for what the
+-- chunks need. After a device error the group is not in memory.
 pub record ChangesItem {D A : Type 0} (medium : Medium D)
     (call : Call A) (edit : List (Option (List ℕ)) → Edit A) (g : ℕ) (result : Result A Refusal) (v w : VmState D) (s t : Store) : Type 0 where
   pub tied : IsTied medium w t
@@ -67,10 +66,9 @@ abbrev pub refers_to : ℕ → ℕ → Result (ℕ × ℕ) Refusal → Result Re
 refers_to g i (Ok place) = Ok (in_block (vm g) (record { chunk = i; start = 0; len = place.1 }))
 refers_to g i (Err why) = Err why
 
--- a group is locked once more, and an item of it, of n bytes at least, found in its bytes; where
--- that is refused it is locked as often as it was. A group that was there asks the device nothing, and
--- nothing else changes; no block goes for one that was not where there is room, and one that the device
--- refuses is not there
+-- a call locks a group once more, and finds an item of at least n bytes in it. A refusal leaves the lock count
+-- unchanged. If the group is in memory, the call does not use the device, and nothing else changes. If it is not,
+-- blocks are evicted only if there is no room for it. After a device error the group is not in memory.
 pub record LocksItem {D : Type 0} (medium : Medium D)
     (g i n : ℕ) (result : Result (ℕ × ℕ) Refusal) (v w : VmState D) (s t : Store) : Type 0 where
   pub tied : IsTied medium w t

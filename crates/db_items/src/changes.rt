@@ -13,9 +13,8 @@ use geos_terms::{Name, Refusal};
 use vm_blocks::VmBlocks;
 use vm_file::Device;
 
-/// Makes a change in a group, which is brought into memory first, and marked where the change is
-/// made. `BadHandle` if no group has this handle; `NoRoom` and `Disk` if it does not come into
-/// memory; then what `chunk_calls::change` refuses.
+/// Makes a change in a group: loads the group into memory first, and marks it if the change is made. `BadHandle` if
+/// no group has this handle; `NoRoom` and `Disk` if it can't be loaded; then what `chunk_calls::change` refuses.
 pub fn item_change<D: Device + Drop>(
     vm: &mut VmBlocks<D>,
     blocks: &mut Blocks,

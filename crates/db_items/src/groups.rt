@@ -1,4 +1,4 @@
-//! Groups: which blocks are groups, new ones, those that go, and those that come into memory.
+//! Groups: which blocks are groups; making, freeing and loading them.
 ghost use Rattle.std.specs.Prelude.{◌≡◌, ◌⊎◌, ◌<◌, ◌↔◌, ℕ, Err, IsTrue, IfOk, IfErr, OnOk, OnErr};
 ghost use Rattle.block_handles.specs.Store.{locks_of};
 ghost use Rattle.geos_calls.specs.ItemCalls.{gfree, gnew};
@@ -23,10 +23,9 @@ pub fn is_group<D: Device + Drop>(vm: &VmBlocks<D>, group: u16) -> bool
     vm.has_group(group)
 }
 
-/// Makes a group of 64 bytes without an item under the lowest handle of the file that is free, in
-/// memory and marked, but not locked. `NoHandle` if all 1,024 are listed; then `NoRoom` if no
-/// stretch of the region has room, though every block of the file that is neither marked nor locked
-/// was discarded.
+/// Makes a group of 64 bytes without an item under the lowest handle of the file that is free, in memory and marked,
+/// but not locked. `NoHandle` if all 1,024 are listed; then `NoRoom` if no stretch of the region has room, although
+/// every idle block of the file was evicted.
 pub fn group_new<D: Device + Drop>(
     vm: &mut VmBlocks<D>,
     blocks: &mut Blocks,

@@ -11,10 +11,10 @@ use geos_terms::Refusal;
 use vm_blocks::VmBlocks;
 use vm_file::Device;
 
-/// Makes an item of `len` zero bytes, and answers its handle: the lowest one of the group that is free.
-/// `BadHandle` if no group has this handle; `NoRoom` and `Disk` if it does not come into memory;
-/// `TooBig` if it would need more than 65,520 bytes; `NoRoom` if it must grow and no stretch of
-/// the region has room for it. The group is marked where none of these comes.
+/// Makes an item of `len` zero bytes, and returns its handle: the lowest one of the group that is free. `BadHandle` if
+/// no group has this handle; `NoRoom` and `Disk` if it can't be loaded; `TooBig` if it would need more than 65,520
+/// bytes; `NoRoom` if it must grow and no stretch of the region has room for it. The group is marked if the call
+/// succeeds.
 pub fn item_new<D: Device + Drop>(
     vm: &mut VmBlocks<D>,
     blocks: &mut Blocks,
@@ -27,8 +27,7 @@ pub fn item_new<D: Device + Drop>(
     item_make(vm, blocks, group, Make::Lalloc { n: len })
 }
 
-/// Frees an item. `BadHandle`, `NoRoom` and `Disk` as `item_new` has them for its group, and `BadChunk`
-/// where it has no such item.
+/// Frees an item. `BadHandle`, `NoRoom` and `Disk` as for `item_new`, and `BadChunk` if the group has no such item.
 pub fn item_free<D: Device + Drop>(
     vm: &mut VmBlocks<D>,
     blocks: &mut Blocks,
@@ -41,8 +40,8 @@ pub fn item_free<D: Device + Drop>(
     item_change(vm, blocks, group, Change::Lfree { c: item })
 }
 
-/// Gives an item `len` bytes: the first ones that fit, and zeros after them. It is refused as `item_free`
-/// is, and then with `TooBig` and `NoRoom` as `item_new` is.
+/// Resizes an item to `len` bytes: keeps the first bytes that fit, and adds zeros. It
+/// is refused as `item_free` is, and then with `TooBig` and `NoRoom` as `item_new` is.
 pub fn item_realloc<D: Device + Drop>(
     vm: &mut VmBlocks<D>,
     blocks: &mut Blocks,

@@ -25,10 +25,10 @@ fn is_full<D: Device + Drop>(vm: &VmBlocks<D>, blocks: &Blocks, g: u16) -> bool
     is_group(vm, g) && blocks.locks(Name::vm(g)) == u16::MAX
 }
 
-/// Locks a group once more, which brings it into memory, for an item of `len` bytes at least: answers
-/// the item's offset in the group, and its length. `BadHandle` if no group has this handle, `Locked`
-/// where its count is 65,535, `NoRoom` and `Disk` if it does not come into memory, `BadChunk` if it
-/// has no such item, `Short` if that has fewer bytes. It is locked only where none of these comes.
+/// Locks a group once more, after loading it into memory, for an item of at least `len` bytes: returns the item's
+/// offset in the group, and its length. `BadHandle` if no group has this handle, `Locked` if its lock count is 65,535,
+/// `NoRoom` and `Disk` if it can't be loaded, `BadChunk` if it has no such item, `Short` if the item has fewer bytes.
+/// The group is locked only if the call succeeds.
 pub fn item_lock_part<D: Device + Drop>(
     vm: &mut VmBlocks<D>,
     blocks: &mut Blocks,

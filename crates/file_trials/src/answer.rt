@@ -24,7 +24,7 @@ pub(crate) enum Answer {
     Blocks(usize, usize),
     /// The device failed.
     Disk,
-    /// The device failed, and these bytes stand where those that are read belong.
+    /// The device failed, and the buffer of the read now has these bytes.
     DiskAt(Vec<u8>),
     /// No file was made.
     Create(CreateError),
@@ -59,7 +59,7 @@ pub(crate) enum Obstacle {
     NoBlock,
     /// The directory is not legal, or one of its blocks is neither in memory nor in the file.
     NotToCommit,
-    /// The line has not as many bytes, or the kept ones end before.
+    /// The line has too few bytes, or the saved bytes end before.
     TooMany,
 }
 
@@ -152,7 +152,7 @@ impl fmt::Display for Answer {
     }
 }
 
-/// What stands in the current state, and in the saved one.
+/// Prints the value of the current state, and the value of the saved state.
 fn put_both<T: fmt::Display, W: fmt::Write>(
     f: &mut fmt::Formatter<W>,
     current: &T,

@@ -10,7 +10,7 @@ use vm_file::{Directory, Entry, Source};
 /// The size of the trial's blocks.
 pub(crate) const SIZE: usize = 64;
 
-/// Where the byte stands by which the trial's blocks differ: the first one of the first chunk.
+/// The offset of the byte in which the blocks of the trial differ: the first byte of the first chunk.
 pub(crate) const BYTE: usize = 22;
 
 /// The bytes of a block.

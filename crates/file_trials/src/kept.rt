@@ -1,11 +1,11 @@
-//! Bytes of a device that are kept, and opened as often as is required: whole, cut, or with some of them changed.
+//! A copy of a device's bytes, which is opened as often as a trial requires: complete, cut, or with some bytes changed.
 
 use crate::answer::Answer;
 use std::alloc::{AllocError, Global};
 use trial_lines::Line;
 use vm_file::{Device, MemoryDevice, OpenError, VmFile};
 
-/// The bytes that are kept.
+/// The copy of a device's bytes.
 #[derive(Drop)]
 pub(crate) struct Kept {
     pub(crate) bytes: Vec<u8>,
@@ -92,7 +92,7 @@ impl Kept {
 /// A device with these bytes.
 fn device_of(alloc: Global, bytes: &[u8]) -> Result<MemoryDevice, AllocError> {
     let mut device = MemoryDevice::new(alloc, bytes.len() as u64)?;
-    // It has just this length, so the write is within it.
+    // It has exactly this length, so the write is within it.
     let _ = device.write_at(0, bytes);
     Ok(device)
 }

@@ -1,22 +1,25 @@
-//! A trial of the calls on VM files. It reads lines with calls, makes one after the other, and prints each line again with what the call
-//! answers. Where memory is refused it ends, and says so (tests/allocations.sh refuses one allocation after the other).
+//! A trial of the calls on VM files. It reads lines with calls, makes one after the other, and prints each line again
+//! with the result of the call. If an allocation is refused, it reports this and ends (tests/allocations.sh refuses one
+//! allocation after the other).
 //!
 //! Each block has 64 bytes, with a chunk of two bytes; the first of these tells the blocks apart.
 //!
-//! - `memory LEN` makes a device in memory, `system LEN` one on a file of the system, which `system_open` opens, `system_open_read_only`
-//!   to read alone, and `system_remove` removes. Calls go to the last device.
-//! - `cached LEN CALL` makes a device with a cache, of which that call and each later one fails; `power_off PART..` puts a device in memory
-//!   in its place, with what a stop leaves: 0 what lasted, 1 what was written or 2 garbage, in each part of 512 bytes.
-//! - `write AT COUNT BYTE..`, `write_block AT H BYTE`, `read AT COUNT`, `sync`: calls on the device itself. `calls` tells how many calls
-//!   it had. `keep` keeps its bytes.
-//! - `fail CALL` and `stop CALL` make a device in memory with the kept bytes, of which that call fails, or that and each later one. After
-//!   `go_on` no call of the device fails any more.
-//! - `damaged AT BYTE BYTE` and `cut LEN` open the kept bytes with two of them changed, or only the first ones. `each_byte FROM TO` and
-//!   `each_cut FROM TO AREA` do so with each byte and each length of a range.
-//! - `create AREA`, `open`, `current`, `saved`, `block H`, `saved_block H`: calls on the file. `pair` tells the bytes of block 1, `blocks`
-//!   how many there are.
-//! - `no_block`, `entry H USER LEN`, `entries FROM TO USER`, `map_block H`, `map_item GROUP ITEM` and `take_current` make the directory that
-//!   is to be committed, `resident H BYTE`, `residents FROM TO BYTE` and `absent` the blocks in memory; `update`, `save` and `revert` commit.
+//! - `memory LEN` makes a device in memory, `system LEN` one on a file of the system. `system_open` opens this file,
+//!   `system_open_read_only` opens it only for reading, and `system_remove` removes it. Calls use the last device.
+//! - `cached LEN CALL` makes a device with a cache; this call of the device and each later one fails.
+//!   `power_off PART..` replaces it with a device in memory that has what a stop leaves: in each part of 512 bytes, 0
+//!   the durable bytes, 1 the written bytes, 2 garbage.
+//! - `write AT COUNT BYTE..`, `write_block AT H BYTE`, `read AT COUNT`, `sync`: calls on the
+//!   device itself. `calls` prints how many calls it had. `keep` saves a copy of its bytes.
+//! - `fail CALL` and `stop CALL` make a device in memory with the saved bytes; this call fails,
+//!   or this call and each later one. After `go_on` no call of the device fails any more.
+//! - `damaged AT BYTE BYTE` and `cut LEN` open the saved bytes with two of them changed, or only the first LEN
+//!   bytes. `each_byte FROM TO` and `each_cut FROM TO AREA` do so with each byte and each length of a range.
+//! - `create AREA`, `open`, `current`, `saved`, `block H`, `saved_block H`: calls on the
+//!   file. `pair` prints the bytes of block 1, `blocks` prints how many blocks there are.
+//! - `no_block`, `entry H USER LEN`, `entries FROM TO USER`, `map_block H`, `map_item GROUP ITEM` and `take_current`
+//!   make the directory that is to be committed, `resident H BYTE`, `residents FROM TO BYTE` and `absent` the blocks in
+//!   memory; `update`, `save` and `revert` commit.
 #![tactic(auto)]
 
 mod answer;
@@ -89,7 +92,7 @@ impl Bench {
 }
 
 impl Trial {
-    /// No device, no bytes that are kept, and nothing to commit.
+    /// A trial without a device, without saved bytes, and with nothing to commit.
     fn new(alloc: Global) -> Trial {
         Trial {
             bench: Bench::Memory(Stand::Nothing),
@@ -116,7 +119,7 @@ impl Trial {
         }
     }
 
-    /// Carries out a call on the bytes that are kept, on the draft, or on the device.
+    /// Makes a call on the saved bytes, on the draft, or on the device.
     fn on_parts(&mut self, alloc: Global, line: &Line<'_>) -> Result<Answer, AllocError> {
         let answer = self.kept.answer(alloc, line)?;
         if answer.is_to_a_call() {

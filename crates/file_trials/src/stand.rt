@@ -190,7 +190,7 @@ fn on_bytes<D: Device + Drop>(
     })
 }
 
-/// Writes up to six bytes, which stand in the line after their place and number.
+/// Writes up to six bytes; the line has them after their offset and their number.
 fn write<D: Device + Drop>(device: &mut FaultDevice<D>, line: &Line<'_>) -> Answer {
     let bytes = line.numbers.map(|number| number.min(255) as u8);
     let end = (line.numbers[1] as usize).saturating_add(2);

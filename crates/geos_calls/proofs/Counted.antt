@@ -23,7 +23,7 @@ use Rattle.geos_calls.specs.Table.{KernelCall, Mnew, Mlock, Mfree, Unlock, Chang
 use Rattle.geos_calls.specs.Leaving.{Scope, NoBlock, OneBlock, WholeFile, new_mem, new_vm, scope_of, LeavesOthers, stale_of, counts_of, marks_of, HasCounts, HasMarks, NoneLocked, IsAskable, keeper_of, MapsBlock, MapsItem, Writes, LeavesFile, SameFile, IsLeft, RowsLeave}
 use Rattle.geos_calls.proofs.Laws.{entry-other, change-shape}
 use Rattle.geos_calls.proofs.Passing.{none-here}
-use Rattle.geos_calls.proofs.HandleLists.{entry-each}
+use Rattle.geos_calls.proofs.HandleLists.{allowed-is, entry-each}
 use Rattle.geos_calls.proofs.LegalGiven.{locks_of-given, is_marked-given, block_of-given}
 use Rattle.geos_calls.proofs.NamedBlocks.{entry-gone, block_in_file, block_of-mapped, block_of-gone, locks_of-chunks, locks_of-set, marks-mapped, locks_of-mark, marked-set, still-listed}
 
@@ -33,7 +33,7 @@ lock-less : (b : Option Block) → locks_in (option_map (locked_block (locks_in 
 lock-less None = omega arith
 lock-less (Some b) = refl
 
--- one is given back
+-- one lock is released
 unlocked : (m : Memory) (name : Name) → locks_of (with_locks m name (locks_of m name - 1)) name ≡ locks_of m name - 1
 unlocked m name = ap locks_in (block_of-mapped m (locked_block (locks_of m name - 1)) name) ∙ lock-less (block_of m name)
 
@@ -89,8 +89,12 @@ passed (test ∷ tests) fine = let here = none-here test.0 test.1 (first_refusal
 
 pub counts : (call : KernelCall) (choice : Choice) (memory : Memory) → IsAskable call memory
     → first_refusal (row call choice memory).refusals ≡ None → HasCounts (counts_of call memory) memory (row call choice memory).after
-counts Mnew choice m asked fine = ap locks_in (lowest-put m.blocks (record { locks = 1; heap = new_heap })
-    (passed (row Mnew choice m).refusals fine).0)
+counts Mnew choice m asked fine =
+    let low = (passed (row Mnew choice m).refusals fine).0 in
+    let is = allowed-is m.handles (lowest_of m.blocks) low in
+    let own : Option Block = Some (record { locks = 1; heap = new_heap }) in
+    subst (λ o. locks_in (at_handle None (with_entry_at m.blocks (unwrap_or o 0) own) (unwrap_or o 0)) ≡ 1) (sym is)
+    (ap locks_in (lowest-put m.blocks (record { locks = 1; heap = new_heap }) (subst (λ o. is_none o ≡ false) is low)))
 counts (Mlock h) choice m asked fine = locks_of-set m (mem h) (locks_of m (mem h) + 1) (passed (row (Mlock h) choice m).refusals fine).0
 counts (Mfree h) choice m asked fine = ap locks_in (block_of-gone m (mem h))
 counts (Unlock name) choice m asked fine = unlocked m name

@@ -1,4 +1,4 @@
--- General laws of the table of calls.
+-- General lemmas about the table of calls.
 use Rattle.std.proofs.Common.{◌≡◌, ◌≢◌, ℕ, zero, suc, ◌<◌, ◌≤◌, Bool, true, false, List, [], ◌∷◌, ◌++◌, length, Option, Some, None, refl, sym, ap, ◌∙◌, arith}
 use Rattle.std.specs.Prelude.{nat_lt, ◌&&◌, Ok, Err}
 use Rattle.std.proofs.lemmas.Option.{none-some}
@@ -20,7 +20,7 @@ use Rattle.geos_calls.specs.Calls.{changes, enlarges, reads, refers, in_block}
 abbrev pub willing : Choice
 willing = record { first_room = false; last_room = false; device = false; unsure = false; memory = false; given = [] }
 
--- room alone is refused from outside, where it may be
+-- from outside only room is refused, at both points where it can be
 abbrev pub cramped : Choice
 cramped = record { first_room = true; last_room = true; device = false; unsure = false; memory = false; given = [] }
 
@@ -35,13 +35,13 @@ entry-other none x xs zero k ne = refl
 entry-other none x xs (suc h) zero ne = refl
 entry-other none x xs (suc h) (suc k) ne = get_or-set_other xs h k x none (λ e. ne (ap suc e))
 
--- where none of some refusals comes, those behind them are tried
+-- if none of some refusals applies, the refusals after them are tried
 pub first_refusal-passed : (xs ys : List (Bool × Refusal)) → first_refusal xs ≡ None → first_refusal (xs ++ ys) ≡ first_refusal ys
 first_refusal-passed [] ys none = refl
 first_refusal-passed ((true, why) ∷ xs) ys none = absurd (none-some why (sym none))
 first_refusal-passed ((false, why) ∷ xs) ys none = first_refusal-passed xs ys none
 
--- where one of some refusals comes, those behind them are not tried
+-- if one of some refusals applies, the refusals after them are not tried
 pub first_refusal-came : (xs ys : List (Bool × Refusal)) (why : Refusal) → first_refusal xs ≡ Some why → first_refusal (xs ++ ys) ≡ Some why
 first_refusal-came [] ys why some = absurd (none-some why some)
 first_refusal-came ((true, w) ∷ xs) ys why some = some
@@ -85,7 +85,7 @@ module _ {A : Type 0} (edit : List (Option (List ℕ)) → Edit A) (name : Name)
       came : first_refusal (made.refusals ++ growing willing before name made.chunks) ≡ Some TooBig
       came = first_refusal-passed made.refusals (growing willing before name made.chunks) passed ∙ rw (over 65520 (need made.chunks) big) refl
 
-  -- and may refuse room where the block would grow and room may be wanting
+  -- the call may be refused with NoRoom if the block would grow and memory is tight
   pub enlarges-tight : first_refusal made.refusals ≡ None → need made.chunks ≤ 65520 → size_of before name < need made.chunks
       → is_tight before name (need made.chunks) ≡ true → outcome (effect_of (enlarges edit name) cramped before) ≡ (Err NoRoom, before)
   enlarges-tight passed small grows tight = rw came refl
@@ -94,7 +94,7 @@ module _ {A : Type 0} (edit : List (Option (List ℕ)) → Edit A) (name : Name)
       came = first_refusal-passed made.refusals (growing cramped before name made.chunks) passed
           ∙ rw (fits (need made.chunks) small, over (size_of before name) (need made.chunks) grows, tight) refl
 
-  -- a call that changes chunks, or tells something of them, goes by its own tests alone
+  -- a call that changes chunks, or returns something about them, depends only on its own tests
   pub changes-ok : first_refusal made.refusals ≡ None
       → outcome (effect_of (changes edit name) willing before) ≡ (Ok made.answer, with_chunks before name made.chunks)
   changes-ok passed = rw passed refl

@@ -74,7 +74,7 @@ stale call choice memory = refl
 -- What a call leaves of blocks that it is not on
 
 same-others : (scope : Scope) (m : Memory) → LeavesOthers scope m m
-same-others scope m = record { blocks = λ h out. refl; listed = λ h out. refl; region = refl }
+same-others scope m = record { blocks = λ h out. refl; listed = λ h out. refl; region = refl; handles = refl }
 
 then-others : (scope : Scope) (a b c : Memory) → LeavesOthers scope a b → LeavesOthers scope b c → LeavesOthers scope a c
 then-others scope a b c x y = record {
@@ -82,6 +82,7 @@ then-others scope a b c x y = record {
   listed = λ h out. y.listed h out
       ∙ x.listed h out;
   region = y.region ∙ x.region;
+  handles = y.handles ∙ x.handles;
 }
 
 owned-others : (m : Memory) (owner : Owner) (h : ℕ) (block : Option Block) → LeavesOthers (OneBlock (named owner h)) m
@@ -91,11 +92,13 @@ owned-others m Mem h block = record {
   listed =
       λ k out. refl;
   region = refl;
+  handles = refl;
 }
 owned-others m Vm h block = record {
   blocks = λ k out. refl;
   listed = λ k out. entry-other None _ m.file.cur.blocks h k (λ e. out (ap vm (sym e)));
   region = refl;
+  handles = refl;
 }
 
 -- a named block is written
@@ -109,6 +112,7 @@ listed-others m h listed = record {
   listed = λ k out. entry-other None listed m.file.cur.blocks h k
       (λ e. out (ap vm (sym e)));
   region = refl;
+  handles = refl;
 }
 
 without-others : (m : Memory) (h : ℕ) → LeavesOthers (OneBlock (vm h)) m (without_listed m h)
@@ -117,6 +121,7 @@ without-others m h = record {
   listed = λ k out. entry-other None None m.file.cur.blocks h k
       (λ e. out (ap vm (sym e)));
   region = refl;
+  handles = refl;
 }
 
 chunks-others : (m : Memory) (name : Name) (chunks : List (Option (List ℕ))) → LeavesOthers (OneBlock name) m (with_chunks m name chunks)
@@ -134,7 +139,7 @@ item-others m g chunks =
     (listed-others n g (option_map (marked_block true) (listed_at n g)))
 
 commit-others : (m : Memory) (pair : Pair) → LeavesOthers WholeFile m (committed m pair)
-commit-others m pair = record { blocks = λ h out. refl; listed = λ h out. absurd (out refl); region = refl }
+commit-others m pair = record { blocks = λ h out. refl; listed = λ h out. absurd (out refl); region = refl; handles = refl }
 
 done-others : (call : KernelCall) (choice : Choice) (memory : Memory) → LeavesOthers (scope_of call memory) memory (row call choice memory).after
 done-others Mnew choice m = block-others m (new_mem m) (Some (record { locks = 1; heap = new_heap }))
@@ -153,7 +158,7 @@ done-others (Vlock h) choice m = locks-others m (vm h) (locks_of m (vm h) + 1)
 done-others (Vdirty h) choice m = listed-others m h (option_map (marked_block true) (listed_at m h))
 done-others (FreeListed h) choice m = without-others m h
 done-others (Vfree h) choice m = without-others m h
-done-others (Vsetmap h) choice m = record { blocks = λ k out. refl; listed = λ k out. refl; region = refl }
+done-others (Vsetmap h) choice m = record { blocks = λ k out. refl; listed = λ k out. refl; region = refl; handles = refl }
 done-others Vupdate choice m = commit-others m (pair_to_keep keep_current m)
 done-others Vsave choice m = commit-others m (pair_to_keep keep_saved m)
 done-others Vrevert choice m = commit-others m (pair_to_keep keep_reverted m)
@@ -164,7 +169,7 @@ done-others (ChangesItem g change) choice m =
     (item-others m g (change_edit change (chunks_at m (vm g))).chunks)
 done-others (MakesItem g make) choice m = item-others m g (make_edit make (chunks_at m (vm g))).chunks
 done-others (Ilock g i n) choice m = locks-others m (vm g) (locks_of m (vm g) + 1)
-done-others (Isetmap g i) choice m = record { blocks = λ k out. refl; listed = λ k out. refl; region = refl }
+done-others (Isetmap g i) choice m = record { blocks = λ k out. refl; listed = λ k out. refl; region = refl; handles = refl }
 done-others call choice m = same-others NoBlock m
 
 left-others : (call : KernelCall) (choice : Choice) (why : Refusal) (old new : Memory) → IsLeft call choice why old new
@@ -172,7 +177,7 @@ left-others : (call : KernelCall) (choice : Choice) (why : Refusal) (old new : M
 left-others call choice why old new is = elim (left-as call choice old why new is) [
   | inl same ↦ subst (LeavesOthers (scope_of call old) old) (sym same) (same-others (scope_of call old) old)
   | inr (keeper, of, doubt) ↦ subst (LeavesOthers (scope_of call old) old) (sym doubt)
-      (record { blocks = λ h out. refl; listed = λ h out. refl; region = refl })
+      (record { blocks = λ h out. refl; listed = λ h out. refl; region = refl; handles = refl })
 ]
 
 others : (call : KernelCall) (choice : Choice) (memory : Memory) → LeavesOthers (scope_of call memory) memory (outcome (row call choice memory)).1

@@ -31,7 +31,7 @@ use Rattle.geos_calls.proofs.Passing.{none-here, some-known}
 abbrev IsWord : ℕ → Type 0
 IsWord w = w < 65536
 
--- Arrays spelled in bytes
+-- Arrays as bytes
 
 bytes-words : (ws : List ℕ) → All IsWord ws → AreBytes (flat_map word_bytes ws)
 bytes-words [] h = All-nil (λ b. b < 256)
@@ -52,7 +52,7 @@ table-small a small = elim (cases_eq a.element_size 0) [
   | inr ne ↦ rw (table-fixed a ne) (All-nil IsWord)
 ]
 
--- an array that is small enough spells bytes
+-- the encoding of an array that is small enough consists of bytes
 pub bytes-spelled : (a : Array) → AreBytes (join a.elements) → length (spelled a) < 65536 → a.element_size < 65536
     → length a.elements < 65536 → AreBytes (spelled a)
 unfolding spelled
@@ -165,7 +165,7 @@ module _ (cs : List (Option (List ℕ))) (c : ℕ) (h : IsArray cs c) (bytes_all
   joined : AreBytes (join h.array.elements)
   joined = subst AreBytes read.spells.rest (All-drop (λ b. b < 256) (first_at h.array) h.bytes are)
 
-  -- what is behind the header is long enough for the elements, where they have one size
+  -- if the elements have one size, the bytes after the header are at least as many as the elements
   few : h.array.element_size ≢ 0 → length h.array.elements ≤ length (join h.array.elements)
   few some =
       let n = length h.array.elements in

@@ -65,7 +65,7 @@ rechunked-legal chunks block are small legal =
     sized-fits : (size n : ℕ) → n ≤ max size n
     sized-fits size n = omega arith
 
--- Where there is a block, or none
+-- With a block, and without one
 
 pub if-locked : (block : Option Block) (n : ℕ) → n ≤ most_locks → IfSome block IsLegalBlock → IfSome (option_map (locked_block n) block) IsLegalBlock
 if-locked None n h legal = tt
@@ -120,9 +120,9 @@ memory-legal memory handles all file = record { handles = handles; blocks = at; 
     at (suc h) = entry-legal h
 
 -- memory without a block
-pub empty-legal : (region : ℕ) → IsMemory (record { blocks = replicate 1024 None; file = empty_file 0; region = region })
+pub empty-legal : (region : ℕ) → IsMemory (record { blocks = replicate 1024 None; file = empty_file 0; region = region; handles = 1024 })
 empty-legal region =
-    memory-legal (record { blocks = replicate 1024 None; file = empty_file 0; region = region })
+    memory-legal (record { blocks = replicate 1024 None; file = empty_file 0; region = region; handles = 1024 })
     (length-replicate {A = Option Block} 1024 None) (All-replicate (λ b. IfSome b IsLegalBlock) 1024 None tt) (empty_file-legal 0)
 
 -- a legal block, or none, put under a handle of global memory

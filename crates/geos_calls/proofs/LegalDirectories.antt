@@ -46,7 +46,7 @@ module _ {B : Type 0} (legal : B → Type 0) (uid : B → ℕ) (directory : Dire
       told : (k : ℕ) → option_map uid (at_handle None (with_entry_at directory.blocks h entry) k) ≡ uid_at uid directory k
       told k = entry-told (option_map uid) directory.blocks h k entry None same
 
-  -- what is listed under a handle of which something is told that is not told of another
+  -- a change of the entry of one handle preserves a property of another's user ID
   listed-else : (P : ℕ → Type 0) (h k : ℕ) (entry : Option B) → k ≢ h → IsSomeAnd (uid_at uid directory k) P
       → IsSomeAnd (option_map uid (at_handle None (with_entry_at directory.blocks h entry) k)) P
   listed-else P h k entry ne there = subst (λ o. IsSomeAnd (option_map uid o) P) (sym (entry-other None entry directory.blocks h k ne)) there

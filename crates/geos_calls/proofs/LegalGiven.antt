@@ -79,8 +79,7 @@ entry-given None entry legal = legal
 entry-given (Some chunks) None legal = tt
 entry-given (Some chunks) (Some listed) legal = given-legal chunks listed legal
 
--- what is told of a block that is given something is told of it before, if that goes by what
--- no gift changes
+-- a function of a block that no given chunks change has the same value after chunks are given
 module _ {X : Type 0} (g : VmBlock → X) (same : (chunks : List (Option (List ℕ))) (listed : VmBlock) → g (refilled listed chunks) ≡ g listed) where
   chunks-told : (chunks : List (Option (List ℕ))) (listed : VmBlock) → g (given_chunks chunks listed) ≡ g listed
   chunks-told chunks listed = go (not (is_held listed) && can_hold listed.block.heap.size chunks)

@@ -1,4 +1,4 @@
--- The bytes of a heap spell a legal one.
+-- The bytes of a heap represent a legal heap.
 use Rattle.std.proofs.Common.{◌≡◌, ℕ, ◌%◌, ◌≤◌, List, Option, Some, None, length, get_or, arith}
 use Rattle.std.specs.Prelude.{All, option_map}
 use Rattle.std.specs.List.{range_with_len}
@@ -14,7 +14,7 @@ placed-legal : (b : List ℕ) (place : Option Place) → AreBytes b → IsChunk 
 placed-legal b None h = tt
 placed-legal b (Some place) h = bytes-part b place.at place.len h
 
--- what the bytes of a block spell are chunks of bytes
+-- the bytes of a block represent chunks of bytes
 pub chunks-legal : (b : List ℕ) → AreBytes b → All IsChunk (chunks b)
 chunks-legal b h =
     let spelled : All (λ i. IsChunk (chunk_at b (entry b i))) (range_with_len 0 (entries b)) =

@@ -78,7 +78,7 @@ owned-gone m Vm h = ap (option_map block_in_file) (entry-gone m.file.cur.blocks 
 pub block_of-gone : (m : Memory) (name : Name) → block_of (with_block m name None) name ≡ None
 block_of-gone m name = owned-gone m name.owner name.h
 
--- what is told of every block is told after one was changed of which the same is told
+-- a function of blocks that a change preserves has the same value for every block after it
 module _ {X : Type 0} (g : Option Block → X) (m : Memory) (f : Block → Block) (same : (b : Option Block) → g (option_map f b) ≡ g b) where
   listed-told : (listed : Option VmBlock)
       → g (option_map block_in_file (option_map (relisted listed) (option_map f (option_map block_in_file listed)))) ≡ g

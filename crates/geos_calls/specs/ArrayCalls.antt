@@ -9,7 +9,7 @@ use Rattle.geos_calls.specs.Calls.{changes, enlarges, reads, refers}
 abbrev pub canew : Name → ℕ → Call ℕ
 canew name k = enlarges (create_array k) name
 
--- puts an element of zero bytes behind the others
+-- appends an element of zero bytes
 abbrev pub caadd : Name → ℕ → ℕ → Call (Unit {0})
 caadd name c n = enlarges (append_element c n) name
 
@@ -21,11 +21,11 @@ cains name c i n = enlarges (insert_element c i n) name
 abbrev pub cadel : Name → ℕ → ℕ → Call (Unit {0})
 cadel name c i = changes (remove_element c i) name
 
--- tells the count of elements
+-- returns the count of elements
 abbrev pub cacount : Name → ℕ → Call ℕ
 cacount name c = reads (count_elements c) name
 
--- gives a reference to an element of n bytes at least
+-- returns a reference to an element of at least n bytes
 abbrev pub caelt : Name → ℕ → ℕ → ℕ → Call Reference
 caelt name c i n = refers (refer_element c i n) name
 

@@ -1,33 +1,33 @@
--- Blocks, whosever they are: how often one is locked, and what it holds.
+-- Blocks of any owner: how often one is locked, and its contents.
 use Rattle.std.specs.Prelude.{ℕ, max, List, [], ◌∷◌, Option, Some, None}
 use Rattle.geos_terms.specs.Chunks.{need}
 
--- what a block holds: its chunks, and its size in bytes, on which refusals alone depend
+-- the contents of a block: its chunks, and its size in bytes, which only refusals depend on
 pub record Heap : Type 0 where
   pub chunks : List (Option (List ℕ))
   pub size : ℕ
 
--- a block: how often it is locked, and what it holds
+-- a block: how often it is locked, and its contents
 pub record Block : Type 0 where
   pub locks : ℕ
   pub heap : Heap
 
--- how often a block is locked, 0 where there is none
+-- how often a block is locked, or 0 if there is none
 abbrev pub locks_in : Option Block → ℕ
 locks_in None = 0
 locks_in (Some block) = block.locks
 
--- the size of a block, 0 where there is none
+-- the size of a block, or 0 if there is none
 abbrev pub size_in : Option Block → ℕ
 size_in None = 0
 size_in (Some block) = block.heap.size
 
--- the chunks of a block, none where there is no block
+-- the chunks of a block, or none if there is no block
 abbrev pub chunks_in : Option Block → List (Option (List ℕ))
 chunks_in None = []
 chunks_in (Some block) = block.heap.chunks
 
--- what a new block holds: 64 bytes, two table entries, no chunk
+-- the contents of a new block: 64 bytes, two table entries, no chunk
 abbrev pub new_heap : Heap
 new_heap = record { chunks = None ∷ None ∷ []; size = 64 }
 
@@ -35,6 +35,6 @@ new_heap = record { chunks = None ∷ None ∷ []; size = 64 }
 abbrev pub locked_block : ℕ → Block → Block
 locked_block n block = record block { locks = n }
 
--- a block with other chunks, for which it grows where it must
+-- a block with other chunks, which grows if it must
 abbrev pub rechunked_block : List (Option (List ℕ)) → Block → Block
 rechunked_block chunks block = record block { heap = record { chunks = chunks; size = max block.heap.size (need chunks) } }

@@ -15,7 +15,7 @@ use Rattle.geos_terms.specs.Edits.{Edit, Part, alloc, free, realloc, insert_byte
 
 -- Calls on the chunks of one locked block, which are edits of a list of chunks
 
--- a call that changes the chunks, and no more bytes are wanted
+-- a call that changes the chunks, and needs no more bytes
 abbrev pub changes : {A : Type 0} → (List (Option (List ℕ)) → Edit A) → Name → Call A
 changes edit name choice memory =
     let e = edit (chunks_at memory name) in
@@ -33,7 +33,7 @@ enlarges edit name choice memory =
       stale = InBlock name;
     }
 
--- a call that tells something of the chunks
+-- a call that returns something about the chunks
 abbrev pub reads : {A : Type 0} → (List (Option (List ℕ)) → Edit A) → Name → Call A
 reads edit name choice memory =
     let e = edit (chunks_at memory name) in
@@ -43,7 +43,7 @@ reads edit name choice memory =
 abbrev pub in_block : Name → Part → Reference
 in_block name p = record { name = name; chunk = p.chunk; start = p.start; len = p.len }
 
--- a call that gives a reference into the block
+-- a call that returns a reference into the block
 abbrev pub refers : (List (Option (List ℕ)) → Edit Part) → Name → Call Reference
 refers edit name choice memory =
     let e = edit (chunks_at memory name) in
@@ -111,7 +111,7 @@ lalloc name n = enlarges (alloc n) name
 abbrev pub lfree : Name → ℕ → Call (Unit {0})
 lfree name c = changes (free c) name
 
--- gives a chunk n bytes: the first ones that fit, and zeros behind them
+-- gives a chunk n bytes: the first of its bytes that fit, then zeros
 abbrev pub lrealloc : Name → ℕ → ℕ → Call (Unit {0})
 lrealloc name c n = enlarges (realloc c n) name
 
@@ -123,15 +123,15 @@ lins name c at n = enlarges (insert_bytes c at n) name
 abbrev pub ldel : Name → ℕ → ℕ → ℕ → Call (Unit {0})
 ldel name c at n = changes (delete_bytes c at n) name
 
--- tells the length of a chunk
+-- returns the length of a chunk
 abbrev pub lsize : Name → ℕ → Call ℕ
 lsize name c = reads (size c) name
 
--- gives a reference to a chunk of n bytes at least
+-- returns a reference to a chunk of at least n bytes
 abbrev pub deref : Name → ℕ → ℕ → Call Reference
 deref name c n = refers (refer c n) name
 
--- moves the chunks of a block together, which no one can tell but by references that are stale
+-- moves the chunks of a block together, which shows only in the references that become stale
 abbrev pub lcontract : Name → Call (Unit {0})
 lcontract name = changes contract name
 

@@ -55,7 +55,7 @@ make_edit (Canew k) = create_array k
 abbrev pub make_row : Name → Make → Call ℕ
 make_row name make = enlarges (make_edit make) name
 
--- what a call that tells a number tells of the chunks
+-- what a call that returns a number does to the chunks
 abbrev pub ask_edit : Ask → List (Option (List ℕ)) → Edit ℕ
 ask_edit (Lsize c) = size c
 ask_edit (Cacount c) = count_elements c
@@ -69,7 +69,7 @@ abbrev pub refer_edit : Refer → List (Option (List ℕ)) → Edit Part
 refer_edit (Deref c n) = refer c n
 refer_edit (Caelt c i n) = refer_element c i n
 
--- how many bytes it wants
+-- how many bytes the call requires
 abbrev pub least : Refer → ℕ
 least (Deref c n) = n
 least (Caelt c i n) = n

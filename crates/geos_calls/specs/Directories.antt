@@ -3,14 +3,14 @@ use Rattle.std.specs.Prelude.{ℕ, ◌+◌, Bool, false, ◌||◌, nat_lt, ◌==
 use Rattle.geos_calls.specs.Blocks.{Heap, Block}
 use Rattle.geos_calls.specs.Handles.{with_entry_at}
 
--- a block of the current directory: its user ID, whether it is marked as changed, and how
--- often it is locked and what it holds, as of every block
+-- a block of the current directory: its user ID, whether it is marked as changed, and, as for every block, its lock
+-- count and its contents
 pub record VmBlock : Type 0 where
   pub uid : ℕ
   pub marked : Bool
   pub block : Block
 
--- a block as the device holds it
+-- a block on the device
 pub record KeptBlock : Type 0 where
   pub uid : ℕ
   pub heap : Heap
@@ -23,7 +23,7 @@ pub record Directory (B : Type 0) : Type 0 where
   pub map_group : ℕ
   pub map_item : ℕ
 
--- the user ID of a listed block, 0 where there is none
+-- the user ID of a listed block, or 0 if there is none
 abbrev pub uid_in : Option VmBlock → ℕ
 uid_in None = 0
 uid_in (Some listed) = listed.uid
@@ -37,13 +37,12 @@ is_marked_in (Some listed) = listed.marked
 abbrev pub is_held : VmBlock → Bool
 is_held listed = listed.marked || nat_lt 0 listed.block.locks
 
--- the same, where a block is listed
+-- the same for an entry, if a block is listed there
 abbrev pub is_held_in : Option VmBlock → Bool
 is_held_in None = false
 is_held_in (Some listed) = is_held listed
 
--- what is listed under a handle, if a block is, with this as what the block holds and how often
--- it is locked; its user ID and its mark stay
+-- an entry with other contents and another lock count; its user ID and its mark stay
 abbrev pub relisted : Option VmBlock → Block → VmBlock
 relisted listed block = record { uid = uid_in listed; marked = is_marked_in listed; block = block }
 

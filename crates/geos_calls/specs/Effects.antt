@@ -12,11 +12,11 @@ use Rattle.geos_calls.specs.Memory.{Memory, listed_at, size_of}
 use Rattle.geos_calls.specs.Given.{given_memory}
 use Rattle.geos_calls.specs.Tight.{is_tight}
 
--- what comes from outside at a call. It may refuse room at the first test for it, which brings
--- a block into memory; room at the last, for which a block is made or grows; the device, and
--- whether it is unsure then what the device holds; and memory. And a device that is not honest
--- may give, by handle, other chunks for blocks that are neither marked nor locked: an honest
--- one gives nothing
+-- what comes from outside at a call. It may refuse room at the first test, which is for bringing a block into memory;
+-- room at the last test, which is for making a block or letting it grow; the device, with or without leaving the file
+-- unsure; and memory.
+-- A device that is not honest may also return (`given`), by handle, other chunks for blocks that are neither marked
+-- nor locked. An honest device returns none
 pub record Choice : Type 0 where
   pub first_room : Bool
   pub last_room : Bool
@@ -25,8 +25,8 @@ pub record Choice : Type 0 where
   pub memory : Bool
   pub given : List (Option (List (Option (List ℕ))))
 
--- which references a call makes stale, where it succeeds and where it refuses: none, those
--- into a block, or those that go with one lock of a block, which is given back
+-- which references a call makes stale, whether it succeeds or is refused: none, those into a block, or those of one
+-- lock of a block, which the call releases
 pub data Staleness : Type 0 where
   Nothing : Staleness
   InBlock : Name → Staleness
@@ -39,9 +39,8 @@ pub record Reference : Type 0 where
   pub start : ℕ
   pub len : ℕ
 
--- what a call comes to: its refusals in the order in which they are tried, each with its test;
--- the memory that a refusal leaves; where none comes, memory after the call and its answer;
--- and the references that it makes stale
+-- the effect of a call: its refusals in the order in which they are tried, each with its test; the memory that a
+-- refusal leaves; if none applies, memory after the call and its result; and the references that it makes stale
 pub record Effect (A : Type 0) : Type 0 where
   pub refusals : List (Bool × Refusal)
   pub left : Refusal → Memory
@@ -53,17 +52,16 @@ pub record Effect (A : Type 0) : Type 0 where
 abbrev pub Call : Type 0 → Type 0
 Call A = Choice → Memory → Effect A
 
--- the refusal that came, with the memory that it leaves; or, where none came, the answer with
--- memory after the call
+-- the refusal that applies, with the memory that it leaves; if none applies, the result with memory after the call
 abbrev pub come_to : {A : Type 0} → Option Refusal → (Refusal → Memory) → A → Memory → Result A Refusal × Memory
 come_to None left answer after = (Ok answer, after)
 come_to (Some refusal) left answer after = (Err refusal, left refusal)
 
--- what a call comes to: the first refusal whose test holds, or its answer
+-- the result of a call: the first refusal whose test is true, or its answer
 abbrev pub outcome : {A : Type 0} → Effect A → Result A Refusal × Memory
 outcome effect = come_to (first_refusal effect.refusals) effect.left effect.answer effect.after
 
--- what a call comes to in memory: its row, read on memory with what the device gives
+-- the effect of a call in memory: its row on memory with what the device returns
 abbrev pub effect_of : {A : Type 0} → Call A → Choice → Memory → Effect A
 effect_of call choice memory = call choice (given_memory choice.given memory)
 
@@ -71,7 +69,7 @@ effect_of call choice memory = call choice (given_memory choice.given memory)
 abbrev pub unchanged : Memory → Refusal → Memory
 unchanged memory refusal = memory
 
--- a call that refuses nothing and changes nothing tells this
+-- a call that refuses nothing, changes nothing, and returns this
 abbrev pub tells : {A : Type 0} → Memory → A → Effect A
 tells memory answer = record { refusals = []; left = unchanged memory; after = memory; answer = answer; stale = Nothing }
 
@@ -91,8 +89,7 @@ cannot_grow choice memory name chunks = nat_lt (size_of memory name) (need chunk
 abbrev pub growing : Choice → Memory → Name → List (Option (List ℕ)) → List (Bool × Refusal)
 growing choice memory name chunks = (nat_lt most_block_bytes (need chunks), TooBig) ∷ (cannot_grow choice memory name chunks, NoRoom) ∷ []
 
--- room is refused for a block of the VM file that is brought into memory, where it may be out
--- of it
+-- the choice refuses room for a block of the VM file that is brought into memory, and memory is tight
 abbrev pub cannot_bring : Choice → Memory → ℕ → Bool
 cannot_bring choice memory h = choice.first_room && not (is_held_in (listed_at memory h)) && is_tight memory (vm h) (size_of memory (vm h))
 

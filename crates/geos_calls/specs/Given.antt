@@ -1,5 +1,5 @@
--- What a device that is not honest may give: a block of the VM file that is neither marked nor
--- locked may hold any legal chunks when a call begins.
+-- What a device that is not honest may do: when a call begins, a block of the VM file that is neither marked nor
+-- locked may have any legal chunks.
 use Rattle.std.specs.Prelude.{ℕ, ◌%◌, Bool, true, ◌&&◌, not, nat_lt, nat_le, ◌==◌, if◌then◌else◌, List, [], ◌∷◌, length, Option, Some, None}
 use Rattle.std.specs.List.{list_all}
 use Rattle.geos_terms.specs.Chunks.{need}
@@ -15,17 +15,16 @@ abbrev pub is_chunk : Option (List ℕ) → Bool
 is_chunk None = true
 is_chunk (Some bytes) = list_all is_byte bytes
 
--- a block of this size can hold these chunks: bytes, entries in pairs, one pair at least, and
--- room for all
+-- a block of this size has room for these chunks: they are bytes, with an even number of entries, at least two
 abbrev pub can_hold : ℕ → List (Option (List ℕ)) → Bool
 can_hold size chunks = list_all is_chunk chunks && (length chunks % 2 == 0) && nat_le 2 (length chunks) && nat_le (need chunks) size
 
--- a listed block that holds these chunks, in the size that it has
+-- a listed block with these chunks, of the same size
 abbrev pub refilled : VmBlock → List (Option (List ℕ)) → VmBlock
 refilled listed chunks = record listed { block = record listed.block { heap = record listed.block.heap { chunks = chunks } } }
 
--- a listed block, given these chunks: it holds them where it is neither marked nor locked, and
--- can
+-- a listed block that is given these chunks: it has them afterwards if it is neither marked nor locked, and has room
+-- for them
 abbrev pub given_chunks : List (Option (List ℕ)) → VmBlock → VmBlock
 given_chunks chunks listed = if not (is_held listed) && can_hold listed.block.heap.size chunks then refilled listed chunks else listed
 
@@ -35,13 +34,13 @@ given_entry None entry = entry
 given_entry (Some chunks) None = None
 given_entry (Some chunks) (Some listed) = Some (given_chunks chunks listed)
 
--- the entries of the current directory, each given what the first list has for its handle;
--- nothing behind the end of that
+-- the entries of the current directory, each with what the first list has for its handle; an element after the last
+-- entry is ignored
 abbrev pub given_entries : List (Option (List (Option (List ℕ)))) → List (Option VmBlock) → List (Option VmBlock)
 given_entries [] entries = entries
 given_entries (given ∷ rest) [] = []
 given_entries (given ∷ rest) (entry ∷ entries) = given_entry given entry ∷ given_entries rest entries
 
--- memory with what a device gives
+-- memory with what a device returns
 abbrev pub given_memory : List (Option (List (Option (List ℕ)))) → Memory → Memory
 given_memory given memory = with_cur memory (record memory.file.cur { blocks = given_entries given memory.file.cur.blocks })

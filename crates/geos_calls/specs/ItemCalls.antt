@@ -13,7 +13,7 @@ use Rattle.geos_calls.specs.VmCalls.{does, makes_listed, frees_listed, vdirty, v
 abbrev pub no_group : Memory → ℕ → Bool × Refusal
 no_group memory g = (not (is_group memory g), BadHandle)
 
--- the references into a group; none where the handle names no group
+-- the references into a group; none if the handle names no group
 abbrev pub in_group : Memory → ℕ → Staleness
 in_group memory g = if is_group memory g then InBlock (vm g) else Nothing
 
@@ -48,7 +48,7 @@ inew g n = on_group g (lalloc (vm g) n)
 abbrev pub ifree : ℕ → ℕ → Call (Unit {0})
 ifree g i = on_group g (lfree (vm g) i)
 
--- gives an item n bytes: the first ones that fit, and zeros behind them
+-- gives an item n bytes: the first of its bytes that fit, then zeros
 abbrev pub irealloc : ℕ → ℕ → ℕ → Call (Unit {0})
 irealloc g i n = on_group g (lrealloc (vm g) i n)
 
@@ -60,8 +60,7 @@ iins g i at n = on_group g (lins (vm g) i at n)
 abbrev pub idel : ℕ → ℕ → ℕ → ℕ → Call (Unit {0})
 idel g i at n = on_group g (ldel (vm g) i at n)
 
--- locks a group once more, which brings it into memory, and gives a reference to an item of n
--- bytes at least
+-- locks a group once more, which brings it into memory, and returns a reference to an item of at least n bytes
 abbrev pub ilock : ℕ → ℕ → ℕ → Call Reference
 ilock g i n choice memory =
     let row = deref (vm g) i n choice memory in
@@ -80,7 +79,7 @@ iunlock = vunlock
 
 -- The map item
 
--- tells the map item, its group first
+-- returns the map item, with its group first
 abbrev pub igetmap : Call (ℕ × ℕ)
 igetmap choice memory = tells memory (memory.file.cur.map_group, memory.file.cur.map_item)
 

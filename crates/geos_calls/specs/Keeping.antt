@@ -1,4 +1,4 @@
--- Each row of the table of calls keeps memory legal.
+-- Each row of the table of calls preserves legal memory.
 use Rattle.std.specs.Prelude.{ℕ, ◌<◌, List, Option}
 use Rattle.geos_terms.specs.declared.name.Name.{Name}
 use Rattle.geos_terms.specs.Names.{vm}
@@ -16,19 +16,18 @@ use Rattle.geos_calls.specs.ChunkCalls.{change_row, make_row, ask_row, refer_row
 use Rattle.geos_calls.specs.VmCalls.{vnew, lock_listed, vlock, bring, vdirty, free_listed, vfree, vfind, vuid, vgetmap, vsetmap, vupdate, vsave, vrevert}
 use Rattle.geos_calls.specs.ItemCalls.{on_group, gnew, gfree, ilock, igetmap, isetmap}
 
--- whatever is refused from outside, the call leaves legal memory legal, where it succeeds and
--- where it is refused
+-- whatever is refused from outside, the call preserves legal memory, if it succeeds and if it is refused
 abbrev pub Keeps : {A : Type 0} → Call A → Type 0
 Keeps call = (choice : Choice) (memory : Memory) → IsMemory memory → IsMemory (outcome (call choice memory)).1
 
--- the size of elements is a word, where an array is made
+-- if an array is made, the size of its elements is a word
 abbrev pub HasWordSize : Make → Type 0
 HasWordSize (Lalloc n) = Unit {0}
 HasWordSize (Canew k) = k < 65536
 
--- each call does; a store, where what it writes are bytes, and a new array, a block and a map
--- item, where the size of its elements, the user ID and the item are words. So does what a
--- device gives
+-- each call preserves legal memory. For a store, this requires that it writes bytes; for a new array, a new block and
+-- a map item, that the size of elements, the user ID and the item are words. What a device returns preserves legal
+-- memory too
 pub record RowsKeepMemory : Type 0 where
   pub by_mnew : Keeps mnew
   pub by_mlock : (h : ℕ) → Keeps (mlock h)

@@ -64,16 +64,17 @@ scope_of (Ilock g i n) memory = OneBlock (vm g)
 scope_of _ memory = NoBlock
 
 -- blocks that are not among these are as they were: their counts, their chunks and sizes, and
--- of those of the VM file their user IDs and marks; and the region is as long
+-- of those of the VM file their user IDs and marks; and the limits on bytes and handles are as they were
 pub record LeavesOthers (scope : Scope) (old new : Memory) : Type 0 where
   pub blocks : (h : ℕ) → (IsWithin scope (mem h) → ⊥) → at_handle None new.blocks h ≡ at_handle None old.blocks h
   pub listed : (h : ℕ) → (IsWithin scope (vm h) → ⊥) → listed_at new h ≡ listed_at old h
   pub region : new.region ≡ old.region
+  pub handles : new.handles ≡ old.handles
 
 -- What is made stale
 
--- what a call makes stale, whatever comes from outside, and whether it is done or refused: an
--- unlock, what goes with the lock; a call that may move chunks, what leads into its block
+-- what a call makes stale, under every choice, and whether it succeeds or is refused: an unlock, the references of
+-- its lock; a call that may move chunks, the references into its block
 abbrev pub stale_of : KernelCall → Memory → Staleness
 stale_of (Unlock name) memory = OfLock name
 stale_of (Changes name change) memory = InBlock name
@@ -84,7 +85,7 @@ stale_of _ memory = Nothing
 
 -- Counts of locks, and marks
 
--- what becomes of the counts: nothing; or one is so then
+-- what a call does to the counts: nothing, or one count has this value afterwards
 pub data Counts : Type 0 where
   SameCounts : Counts
   OneCount : Name → ℕ → Counts
@@ -126,12 +127,12 @@ marks_of (ChangesItem g change) memory = OneMark g true
 marks_of (MakesItem g make) memory = OneMark g true
 marks_of _ memory = SameMarks
 
--- counts are so then; those of other blocks are as they were, as `LeavesOthers` has it
+-- the counts afterwards; `LeavesOthers` says that those of other blocks are as they were
 abbrev pub HasCounts : Counts → Memory → Memory → Type 0
 HasCounts SameCounts old new = (name : Name) → locks_of new name ≡ locks_of old name
 HasCounts (OneCount name n) old new = locks_of new name ≡ n
 
--- and so are marks
+-- the marks afterwards
 abbrev pub HasMarks : Marks → Memory → Memory → Type 0
 HasMarks SameMarks old new = (h : ℕ) → is_marked new h ≡ is_marked old h
 HasMarks (OneMark h marked) old new = is_marked new h ≡ marked
@@ -141,8 +142,8 @@ HasMarks NoMarks old new = (h : ℕ) → is_marked new h ≡ false
 abbrev pub NoneLocked : Memory → Type 0
 NoneLocked memory = (h : ℕ) → locks_of memory (vm h) ≡ 0
 
--- what a call may be asked on: a mark, on what is listed; a commit, where no block of the file is
--- locked. The others ask on anything, and refuse what they must
+-- the precondition of a call: a mark requires that the block is listed, and a commit that no block of the file is
+-- locked. The other calls have no precondition, and refuse what they must
 abbrev pub IsAskable : KernelCall → Memory → Type 0
 IsAskable (Vdirty h) memory = is_none (listed_at memory h) ≡ false
 IsAskable Vupdate memory = NoneLocked memory
@@ -152,15 +153,14 @@ IsAskable _ memory = Unit {0}
 
 -- The VM file beside its blocks
 
--- which pair a call keeps, if it is a commit
+-- which pair a call commits, if it is a commit
 abbrev pub keeper_of : KernelCall → Option Keeper
 keeper_of Vupdate = Some keep_current
 keeper_of Vsave = Some keep_saved
 keeper_of Vrevert = Some keep_reverted
 keeper_of _ = None
 
--- a call may change which block is mapped: it names one, frees it, or goes back to the saved
--- directory
+-- a call may change the map block: it sets one, frees the old one, or restores the saved directory
 abbrev pub MapsBlock : KernelCall → Memory → Type 0
 MapsBlock (Vsetmap h) memory = Unit {0}
 MapsBlock (FreeListed h) memory = memory.file.cur.map_block ≡ h
@@ -169,7 +169,7 @@ MapsBlock (Gfree g) memory = memory.file.cur.map_block ≡ g
 MapsBlock Vrevert memory = Unit {0}
 MapsBlock _ memory = ⊥
 
--- or which item: it names one, frees its group, or goes back
+-- a call may change the map item: it sets one, frees the group of the old one, or restores the saved directory
 abbrev pub MapsItem : KernelCall → Memory → Type 0
 MapsItem (Isetmap g i) memory = Unit {0}
 MapsItem (FreeListed h) memory = memory.file.cur.map_group ≡ h
@@ -183,15 +183,14 @@ abbrev pub Saves : KernelCall → Type 0
 Saves Vsave = Unit {0}
 Saves _ = ⊥
 
--- a call writes the current directory to the device, and goes on with it
+-- a call writes the current directory to the device, and the file then has it
 abbrev pub Writes : KernelCall → Type 0
 Writes Vupdate = Unit {0}
 Writes Vsave = Unit {0}
 Writes _ = ⊥
 
--- what a call leaves of the file beside its blocks: the maps, where it is no call that may change
--- them; the saved directory, if it is no save; what the device holds, if it is no commit; and
--- the area
+-- what a call leaves of the file except its blocks: the maps, if the call may not change them; the saved directory,
+-- if it is no save; the committed pair, if it is no commit; and the area
 pub record LeavesFile (call : KernelCall) (old new : Memory) : Type 0 where
   pub map_block : (MapsBlock call old → ⊥) → new.file.cur.map_block ≡ old.file.cur.map_block
   pub map_group : (MapsItem call old → ⊥) → new.file.cur.map_group ≡ old.file.cur.map_group
@@ -200,7 +199,7 @@ pub record LeavesFile (call : KernelCall) (old new : Memory) : Type 0 where
   pub kept : keeper_of call ≡ None → new.file.kept ≡ old.file.kept
   pub area : new.file.area ≡ old.file.area
 
--- the maps, what is saved and what is kept, and the area are as they were
+-- the maps, the saved directory, the committed pair and the area are as they were
 pub record SameFile (old new : Memory) : Type 0 where
   pub map_block : new.file.cur.map_block ≡ old.file.cur.map_block
   pub map_group : new.file.cur.map_group ≡ old.file.cur.map_group
@@ -209,20 +208,22 @@ pub record SameFile (old new : Memory) : Type 0 where
   pub kept : new.file.kept ≡ old.file.kept
   pub area : new.file.area ≡ old.file.area
 
--- The laws
+-- The lemmas
 
--- what a refusal leaves: memory as it was; or, of a commit whose device has failed late, memory
--- as it was but that the device may hold the pair to be kept, too
+-- what a refusal leaves: memory as it was; or, if the device failed late in a commit, memory as it was except that
+-- the device may have the new pair
 abbrev pub IsLeft : KernelCall → Choice → Refusal → Memory → Memory → Type 0
 IsLeft call choice why old new = (new ≡ old) ⊎ ((why ≡ Disk) × (choice.unsure ≡ true)
     × IsSomeAnd (keeper_of call) (λ keeper. new ≡ in_doubt old (pair_to_keep keeper old)))
 
--- of each row, on whatever memory and under whatever choice: what a refusal leaves; which
--- references it makes stale; that it leaves every block that it is not on, and what of the file,
--- also where it is refused; and, where it may be asked and is done, counts and marks, and that an
--- update and a save leave each block of the file, but its mark. A bring that is given nothing
--- changes nothing; and what is given leaves counts and marks, each block that is locked, and the
--- file beside its blocks
+-- what holds for every row, on every memory and under every choice. `refused`, `stale`: what a refusal leaves, and
+-- which references become stale.
+-- `others`, `file`: the row leaves the blocks outside its scope, and its parts of the file, as they were, also if it
+-- is refused.
+-- The rest holds if the precondition of the call holds and the call succeeds: which counts and marks stay; and an
+-- update or a save leaves each block of the file, except for its mark.
+-- A bring that is given nothing changes nothing. What it is given leaves counts and marks, each locked block, and the
+-- file except its blocks
 pub record RowsLeave : Type 0 where
   pub refused : (call : KernelCall) (choice : Choice) (memory : Memory) (why : Refusal)
       → IsLeft call choice why memory ((row call choice memory).left why)

@@ -20,7 +20,7 @@ pub record AreChunks (chunks : List (Option (List ℕ))) : Type 0 where
   pub pairs : length chunks % 2 ≡ 0
   pub some : 2 ≤ length chunks
 
--- such chunks, in a block of a legal size that has room for them
+-- legal chunks, in a block of a legal size that has room for them
 pub record IsLegalHeap (heap : Heap) : Type 0 where
   pub chunks : AreChunks heap.chunks
   pub least : 64 ≤ heap.size
@@ -28,7 +28,7 @@ pub record IsLegalHeap (heap : Heap) : Type 0 where
   pub sixteens : heap.size % 16 ≡ 0
   pub fits : need heap.chunks ≤ heap.size
 
--- a block with such a heap, which is locked no more often than it can be
+-- a block with a legal heap, whose lock count is at most 65,535
 pub record IsLegalBlock (block : Block) : Type 0 where
   pub heap : IsLegalHeap block.heap
   pub few : block.locks ≤ most_locks
@@ -38,7 +38,7 @@ pub record IsLegalListed (listed : VmBlock) : Type 0 where
   pub uid : listed.uid < 65536
   pub block : IsLegalBlock listed.block
 
--- the same of a block as the device holds it
+-- the same for a block on the device
 pub record IsLegalKept (kept : KeptBlock) : Type 0 where
   pub uid : kept.uid < 65536
   pub heap : IsLegalHeap kept.heap
@@ -47,16 +47,15 @@ pub record IsLegalKept (kept : KeptBlock) : Type 0 where
 abbrev pub uid_at : {B : Type 0} → (B → ℕ) → Directory B → ℕ → Option ℕ
 uid_at uid directory h = option_map uid (at_handle None directory.blocks h)
 
--- a directory, by the user IDs of its blocks: the map block is one of them and no group, and
--- the map item lies in a group, where they are not 0; the item is a word, and 0 where its group
--- is
+-- the maps of a directory, by the user IDs of its blocks: a map block that is not 0 is one of its blocks and no
+-- group; a map item is in a group, unless that is 0. The item is a word, and is 0 if its group is
 pub record HasMaps {B : Type 0} (uid : B → ℕ) (directory : Directory B) : Type 0 where
   pub map_block : directory.map_block ≢ 0 → IsSomeAnd (uid_at uid directory directory.map_block) (λ u. u ≢ group_uid)
   pub map_group : directory.map_group ≢ 0 → IsSomeAnd (uid_at uid directory directory.map_group) (λ u. u ≡ group_uid)
   pub no_item : directory.map_group ≡ 0 → directory.map_item ≡ 0
   pub word : directory.map_item < 65536
 
--- 1,024 handles, each block a legal one, and such maps
+-- 1,024 handles, each block a legal one, and legal maps
 pub record IsLegalDirectory {B : Type 0} (legal : B → Type 0) (uid : B → ℕ) (directory : Directory B) : Type 0 where
   pub handles : length directory.blocks ≡ 1024
   pub blocks : (h : ℕ) → IfSome (at_handle None directory.blocks h) legal
@@ -66,7 +65,7 @@ pub record IsLegalDirectory {B : Type 0} (legal : B → Type 0) (uid : B → ℕ
 abbrev pub IsCurrent : Directory VmBlock → Type 0
 IsCurrent directory = IsLegalDirectory IsLegalListed (λ (b : VmBlock). b.uid) directory
 
--- a directory as the device holds it
+-- a directory on the device
 abbrev pub IsStored : Directory KeptBlock → Type 0
 IsStored directory = IsLegalDirectory IsLegalKept (λ (b : KeptBlock). b.uid) directory
 
@@ -74,7 +73,7 @@ IsStored directory = IsLegalDirectory IsLegalKept (λ (b : KeptBlock). b.uid) di
 abbrev pub IsPair : Pair → Type 0
 IsPair pair = IsStored pair.cur × IsStored pair.saved
 
--- what the device holds: a legal pair, or one of two
+-- the contents of the device: a legal pair, or one of two
 abbrev pub ArePairs : Kept → Type 0
 ArePairs (Sure p) = IsPair p
 ArePairs (Unsure p q) = IsPair p × IsPair q

@@ -3,18 +3,20 @@ use Rattle.std.specs.Prelude.{ℕ, Bool, ◌==◌, List, Option, None, option_ma
 use Rattle.geos_terms.specs.declared.name.Owner.{Owner}
 use Rattle.geos_terms.specs.declared.name.Owner.TheVariants.{Mem, Vm}
 use Rattle.geos_terms.specs.declared.name.Name.{Name}
-pub use Rattle.geos_calls.specs.Handles.{at_handle, with_entry_at, lowest_of}
+pub use Rattle.geos_calls.specs.Handles.{at_handle, with_entry_at, lowest_of, up_to}
 pub use Rattle.geos_calls.specs.Blocks.{Heap, Block, locks_in, size_in, chunks_in, new_heap, locked_block, rechunked_block}
 use Rattle.geos_calls.specs.Directories.{VmBlock, Directory, uid_in, is_marked_in, relisted, marked_block}
 use Rattle.geos_terms.specs.Names.{group_uid}
 use Rattle.geos_calls.specs.VmFile.{VmFile}
 
--- the blocks of global memory, that of handle 1 first; the VM file; and the length of the
--- region, on which want of room alone depends. A list by handles has 1,024 entries
+-- the blocks of global memory, the first with handle 1; the VM file; the length of the region, on which only a lack of
+-- room depends; and the highest handle that a new block of global memory may get, on which only a lack of handles
+-- depends. A list by handles has 1,024 entries
 pub record Memory : Type 0 where
   pub blocks : List (Option Block)
   pub file : VmFile
   pub region : ℕ
+  pub handles : ℕ
 
 -- The current directory of the VM file
 
@@ -75,9 +77,9 @@ size_of memory name = size_in (block_of memory name)
 abbrev pub chunks_at : Memory → Name → List (Option (List ℕ))
 chunks_at memory name = chunks_in (block_of memory name)
 
--- the lowest handle of an owner that names no block
+-- the lowest handle of an owner that names no block, if a new block may get it
 abbrev pub lowest_handle : Memory → Owner → Option ℕ
-lowest_handle memory Mem = lowest_of memory.blocks
+lowest_handle memory Mem = up_to memory.handles (lowest_of memory.blocks)
 lowest_handle memory Vm = lowest_of memory.file.cur.blocks
 
 -- a named block is locked n times

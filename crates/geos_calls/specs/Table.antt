@@ -12,13 +12,13 @@ use Rattle.geos_calls.specs.ChunkCalls.{change_row, make_row, ask_row, refer_row
 use Rattle.geos_calls.specs.VmCalls.{vnew, lock_listed, vlock, bring, vdirty, free_listed, vfree, vfind, vuid, vgetmap, vsetmap, vupdate, vsave, vrevert}
 use Rattle.geos_calls.specs.ItemCalls.{on_group, gnew, gfree, ilock, igetmap, isetmap}
 
--- a call of the kernel with its operands: on blocks of global memory; on the chunks of a block;
--- on bytes; on blocks of the VM file, and on the file; on groups and items. Calls that are one
--- row stand once: so a block or a group of the file is unlocked by `Unlock`, and a group is marked
--- by `Vdirty`. Each value has its row, and the laws hold of each, though no instruction makes it:
--- `Bring`, `LockListed` and `FreeListed`, which are rows below the kernel; a `ChangesItem` of
--- another change than Lfree, Lrealloc, Lins and Ldel; and a `MakesItem` of an array. Arrays in
--- items are changed by `Changes`, through a slot that holds the group
+-- a call of the kernel with its operands: on blocks of global memory; on the chunks of a block; on bytes; on blocks
+-- of the VM file, and on the file; on groups and items.
+-- Calls with the same row have one variant: `Unlock` also unlocks a block or a group of the file, and `Vdirty` also
+-- marks a group.
+-- Each variant has a row that the lemmas cover, even if no instruction makes it: `Bring`, `LockListed` and
+-- `FreeListed`, which are rows below the kernel; a `ChangesItem` with another change than Lfree, Lrealloc, Lins and
+-- Ldel; and a `MakesItem` of an array. `Changes` changes arrays in items, through a slot that contains the group
 pub data KernelCall : Type 0 where
   Mnew : KernelCall
   Mlock : ℕ → KernelCall
@@ -54,13 +54,13 @@ pub data KernelCall : Type 0 where
   Igetmap : KernelCall
   Isetmap : ℕ → ℕ → KernelCall
 
--- a call, what it answers aside
+-- a call without its result
 abbrev pub unanswered : {A : Type 0} → Call A → Call (Unit {0})
 unanswered call choice memory =
     let row = call choice memory in
     record { refusals = row.refusals; left = row.left; after = row.after; answer = tt; stale = row.stale }
 
--- the row of each call, its answer aside
+-- the row of each call, without its result
 abbrev pub row : KernelCall → Call (Unit {0})
 row Mnew = unanswered mnew
 row (Mlock h) = mlock h

@@ -15,7 +15,7 @@ use Rattle.geos_calls.specs.Calls.{locks_full, is_in_use, unlock}
 abbrev pub no_listed : Memory → ℕ → Bool × Refusal
 no_listed memory h = (is_none (listed_at memory h), refusal.BadHandle)
 
--- a group is named where a block is wanted
+-- a handle names a group although the call requires a block
 abbrev pub names_group : Memory → ℕ → Bool × Refusal
 names_group memory h = (is_group memory h, refusal.Reserved)
 
@@ -23,8 +23,8 @@ names_group memory h = (is_group memory h, refusal.Reserved)
 abbrev pub is_reserved : ℕ → Bool × Refusal
 is_reserved uid = (uid == group_uid, refusal.Reserved)
 
--- a call with these refusals, each of which leaves memory as it was, which leaves memory so and
--- makes nothing stale
+-- a call with these refusals and this memory afterwards, which makes nothing stale; each refusal leaves memory as it
+-- was
 abbrev pub does : Memory → List (Bool × Refusal) → Memory → Effect (Unit {0})
 does memory refusals after = record { refusals = refusals; left = unchanged memory; after = after; answer = tt; stale = Nothing }
 
@@ -34,7 +34,7 @@ does memory refusals after = record { refusals = refusals; left = unchanged memo
 abbrev pub new_listed : ℕ → ℕ → VmBlock
 new_listed uid n = record { uid = uid; marked = true; block = record { locks = n; heap = new_heap } }
 
--- makes such a block under the lowest free handle, with these refusals in front
+-- makes such a block under the lowest free handle; tests these refusals first
 abbrev pub makes_listed : List (Bool × Refusal) → ℕ → ℕ → Call ℕ
 makes_listed front uid n choice memory =
     let h = unwrap_or (lowest_handle memory Vm) 0 in
@@ -55,7 +55,7 @@ abbrev pub locks_listed : List (Bool × Refusal) → ℕ → Call (Unit {0})
 locks_listed front h choice memory = does memory (front ++ (locks_full memory (vm h) ∷ bringing choice memory h))
     (with_locks memory (vm h) (locks_of memory (vm h) + 1))
 
--- locks a block or group: below the kernel, where a group is a block as any other
+-- locks a block or group: a row below the kernel, for which a group is a block like any other
 abbrev pub lock_listed : ℕ → Call (Unit {0})
 lock_listed h choice memory = locks_listed (no_listed memory h ∷ []) h choice memory
 
@@ -63,7 +63,7 @@ lock_listed h choice memory = locks_listed (no_listed memory h ∷ []) h choice 
 abbrev pub vlock : ℕ → Call (Unit {0})
 vlock h choice memory = locks_listed (no_listed memory h ∷ names_group memory h ∷ []) h choice memory
 
--- brings a block or a group into memory, which memory does not tell: part of other calls
+-- brings a block or a group into memory, which the model's memory does not show: a part of other calls
 abbrev pub bring : ℕ → Call (Unit {0})
 bring h choice memory = does memory (no_listed memory h ∷ bringing choice memory h) memory
 
@@ -83,7 +83,7 @@ without_listed memory h = with_cur memory (without_block memory.file.cur h)
 abbrev pub frees_listed : List (Bool × Refusal) → ℕ → Call (Unit {0})
 frees_listed front h choice memory = does memory (front ++ (is_in_use memory (vm h) ∷ [])) (without_listed memory h)
 
--- frees a block or group: below the kernel, where a group is a block as any other
+-- frees a block or group: a row below the kernel, for which a group is a block like any other
 abbrev pub free_listed : ℕ → Call (Unit {0})
 free_listed h choice memory = frees_listed (no_listed memory h ∷ []) h choice memory
 
@@ -98,20 +98,19 @@ abbrev pub has_uid : ℕ → Option VmBlock → Bool
 has_uid uid None = false
 has_uid uid (Some listed) = listed.uid == uid
 
--- the handle of the first such entry behind that of `start`, of entries of which the first has
--- handle 1
+-- the handle of the first such entry after the one with handle `start`; the first of the entries has handle 1
 abbrev pub found_above : ℕ → ℕ → List (Option VmBlock) → Option ℕ
 found_above start uid entries = option_map (λ i. start + suc i) (position (has_uid uid) (drop start entries))
 
--- tells the lowest handle above one of a block with this user ID, or 0
+-- returns the lowest handle above `start` of a block with this user ID, or 0
 abbrev pub vfind : ℕ → ℕ → Call ℕ
 vfind start uid choice memory = record (tells memory (unwrap_or (found_above start uid memory.file.cur.blocks) 0)) { refusals = is_reserved uid ∷ [] }
 
--- tells the user ID of a block or group
+-- returns the user ID of a block or group
 abbrev pub vuid : ℕ → Call ℕ
 vuid h choice memory = record (tells memory (uid_in (listed_at memory h))) { refusals = no_listed memory h ∷ [] }
 
--- tells the map block
+-- returns the map block
 abbrev pub vgetmap : Call ℕ
 vgetmap choice memory = tells memory memory.file.cur.map_block
 
@@ -127,19 +126,18 @@ vsetmap h choice memory =
 abbrev pub written_directory : Memory → Directory KeptBlock
 written_directory memory = with_each kept_block memory.file.cur
 
--- memory goes on with a pair that the device holds: its current directory with no mark, and each
--- count 0. A commit is asked only where no block of the file is locked, so that no count changes
+-- memory after a commit of a pair: its current directory without marks and with each count 0. A commit requires that
+-- no block of the file is locked, so no count changes
 abbrev pub committed : Memory → Pair → Memory
 committed memory pair = record memory {
   file = record memory.file { cur = with_each idle_block pair.cur; saved = pair.saved; kept = Sure pair };
 }
 
--- memory as it was, but that the device may hold this pair, too
+-- memory as it was, except that the device may have this pair
 abbrev pub in_doubt : Memory → Pair → Memory
 in_doubt memory pair = record memory { file = record memory.file { kept = doubted memory.file.kept pair } }
 
--- what a fault of the device leaves of a commit: where it comes late, the device may hold the
--- new pair or the old one
+-- what a device error leaves of a commit: if it is late, the device may have the new pair or the old one
 abbrev pub faulted : Choice → Memory → Pair → Memory
 faulted choice memory pair = if choice.unsure then in_doubt memory pair else memory
 
@@ -148,7 +146,7 @@ abbrev pub left_by_commit : Choice → Memory → Pair → Refusal → Memory
 left_by_commit choice memory pair refusal.Disk = faulted choice memory pair
 left_by_commit choice memory pair why = memory
 
--- which pair is to be kept, of the current directory as it is written and of the saved one
+-- which pair a commit writes, given the current directory as it is written and the saved one
 abbrev pub Keeper : Type 0
 Keeper = Directory KeptBlock → Directory KeptBlock → Pair
 
@@ -164,11 +162,11 @@ keep_saved cur saved = record { cur = cur; saved = cur }
 abbrev pub keep_reverted : Keeper
 keep_reverted cur saved = record { cur = saved; saved = saved }
 
--- the pair of memory that is to be kept
+-- the pair that a commit writes from this memory
 abbrev pub pair_to_keep : Keeper → Memory → Pair
 pair_to_keep keeper memory = keeper (written_directory memory) memory.file.saved
 
--- writes a pair to the device, and goes on with it; asked where no block of the file is locked
+-- commits a pair to the device, and continues with it; requires that no block of the file is locked
 abbrev pub commit : Keeper → Call (Unit {0})
 commit keeper choice memory =
     let pair = pair_to_keep keeper memory in
@@ -193,6 +191,6 @@ vupdate = commit keep_current
 abbrev pub vsave : Call (Unit {0})
 vsave = commit keep_saved
 
--- goes back to the saved directory
+-- restores the saved directory
 abbrev pub vrevert : Call (Unit {0})
 vrevert = commit keep_reverted

@@ -1,18 +1,18 @@
--- The VM file as the model knows it: what is current, what is saved, and what the device holds.
+-- The VM file as the model knows it: the current directory, the saved directory, and the contents of the device.
 use Rattle.std.specs.Prelude.{ℕ, ◌+◌, Bool, true, false}
 use Rattle.geos_calls.specs.Directories.{VmBlock, KeptBlock, Directory, no_directory, directory_length}
 
--- a current and a saved directory, as the device holds them
+-- a current and a saved directory, as they are on the device
 pub record Pair : Type 0 where
   pub cur : Directory KeptBlock
   pub saved : Directory KeptBlock
 
--- what the device holds: a pair, or one of two, and nothing tells which
+-- the contents of the device: a pair, or one of two pairs, and it is unknown which
 pub data Kept : Type 0 where
   Sure : Pair → Kept
   Unsure : Pair → Pair → Kept
 
--- the current directory, the saved one, what the device holds, and how long a pair may be there
+-- the current directory, the saved one, the contents of the device, and the most bytes of a pair there
 pub record VmFile : Type 0 where
   pub cur : Directory VmBlock
   pub saved : Directory KeptBlock
@@ -23,17 +23,17 @@ pub record VmFile : Type 0 where
 abbrev pub pair_length : Pair → ℕ
 pair_length pair = directory_length pair.cur + directory_length pair.saved
 
--- it is not sure what the device holds
+-- it is unknown which pair the device has
 abbrev pub is_unsure : Kept → Bool
 is_unsure (Sure p) = false
 is_unsure (Unsure p q) = true
 
--- it may be another pair, too, that the device holds
+-- the device may also have this pair
 abbrev pub doubted : Kept → Pair → Kept
 doubted (Sure p) new = Unsure p new
 doubted (Unsure p q) new = Unsure p q
 
--- a file without a block, whose device holds that
+-- a file without a block, in memory and on the device
 abbrev pub empty_file : ℕ → VmFile
 empty_file area = record {
   cur = no_directory;

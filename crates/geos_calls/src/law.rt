@@ -3,13 +3,16 @@
 ghost use Rattle.geos_calls.specs.Keeping.{RowsKeepMemory};
 ghost use Rattle.geos_calls.specs.Leaving.{RowsLeave};
 
-/// Each row of the table of calls keeps memory legal, where the call succeeds and where it is
-/// refused, whatever is refused from outside. Legal memory has 1,024 handles; the size of each
-/// block is a multiple of 16 from 64 to 65,520 and has room for the block's chunks; its table
-/// has an even number of entries, at least two; chunks are of bytes; no count of locks is
-/// above 65,535. The same holds of the current, the saved and the kept directories of the VM
-/// file, whose user IDs are words, and whose maps name a block that is no group, and a group.
-/// (GEOS SDK Concepts Book, chapters Memory Management, Local Memory and Virtual Memory.)
+/// Each row of the table of calls preserves legal memory, if the call succeeds and if it is refused, whatever is
+/// refused from outside.
+///
+/// Legal memory has 1,024 handles. The size of each block is a multiple of 16 from 64 to 65,520, and has room for the
+/// block's chunks. The table of a block has an even number of entries, at least two. Chunks are of bytes. No lock
+/// count is above 65,535.
+///
+/// The same holds of the current, the saved and the committed directories of the VM file. Their user IDs are words,
+/// and their maps name a block that is no group, and a group. (GEOS SDK Concepts Book, chapters Memory Management,
+/// Local Memory and Virtual Memory.)
 pub fn rows_keep_memory()
     ensures { RowsKeepMemory }
 {}

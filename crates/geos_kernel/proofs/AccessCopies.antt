@@ -82,7 +82,7 @@ module _ {D : Type 0} (medium : Medium D) (v : VmState D) (s t : Store) (k : IsK
   copied-calls = copied-over medium v s t k to target x 0 to.at taken (omega (arith, long, room)) (omega (arith, long, some))
       (omega arith) taken-bytes covered source n is-taken refl
 
--- A copy between spans that stand, as calls see the kernel
+-- A copy between valid spans, as calls see the kernel
 
 module _ {D : Type 0} (medium : Medium D) (v : VmState D) (s t : Store) (k : KernelOn D) (is : kernel_of medium v s ≡ k)
     (kernel : IsKernel medium v s) (to from : Span)

@@ -1,4 +1,4 @@
--- Where the bytes lie that a span stands for, and what is read there.
+-- The position of a span's bytes, and what a read finds there.
 use Rattle.std.proofs.Common.{◌≡◌, ℕ, ◌+◌, ◌-◌, ◌*◌, ◌<◌, ◌≤◌, List, [], length, take, drop, Option, Some, None, slice_index, unwrap_or, refl, sym, ap, ◌∙◌, subst, arith, length-take, length-drop}
 use Rattle.std.specs.Prelude.{Ok, IfSome}
 use Rattle.std.specs.Option.{option_map}
@@ -139,7 +139,7 @@ module _ {D : Type 0} (medium : Medium D) (v : VmState D) (s : Store) (span : Sp
       let index : span.at - store.place_of s (slot_of ref.name) ≡ begin = omega (arith, l.at) in
       ap (λ j. part own_bytes j n) index ∙ sym (ap (take n) (named-is m is l) ∙ take-take n ref.len (drop begin own_bytes) fits)
 
--- A span that stands, as calls see the kernel
+-- A valid span, as calls see the kernel
 
 module _ {D : Type 0} (medium : Medium D) (v : VmState D) (s : Store) (k : KernelOn D) (is : kernel_of medium v s ≡ k)
     (kernel : IsKernel medium v s) (span : Span) where

@@ -217,7 +217,7 @@ module _ {D : Type 0} (medium : Medium D) (v : VmState D) (s : Store) (k : IsKer
       others-kernel medium v s written-store ref.name k holds others (table.store ref i ws) (Ok tt)
       (named-tied medium v s written-store ref.name k.tied there others may) written-row
 
--- a write that covers bytes of a span is a write to the chunk for which it stands
+-- a write to bytes of a span is a write to its chunk
 module _ {D : Type 0} (medium : Medium D) (v : VmState D) (s t : Store) (k : IsKernel medium v s) (span : Span)
     (ref : Reference) (stands : Stands (core_of medium v s) span ref)
     (i at : ℕ) (ws : List ℕ) (fits : i + length ws ≤ ref.len) (some : 0 < length ws) (e : at ≡ span.at + i)
@@ -252,7 +252,7 @@ module _ {D : Type 0} (medium : Medium D) (v : VmState D) (s t : Store) (k : IsK
       subst (λ u. Calls (medium.honest v.file.device) (table.copy ref source n) (Ok tt) (core s) (core u)) (sym stored)
       (copied-in medium v s k ref is-there place.chunk i ws fits are source n is first)
 
--- A write through a span that stands, as calls see the kernel
+-- A write through a valid span, as calls see the kernel
 
 pub byte-bytes : (b : ℕ) → b < 256 → AreBytes (b ∷ [])
 byte-bytes b small = All-cons (λ b. b < 256) b [] small (All-nil (λ b. b < 256))

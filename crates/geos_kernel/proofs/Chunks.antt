@@ -82,7 +82,7 @@ contracted medium v s t name k holds done are marked =
           k holds keeps (lcontract name) (Ok tt) (λ choice m. refl) row,
     )
 
--- Want of room
+-- Lack of room
 
 module _ {D : Type 0} (medium : Medium D) (v : VmState D) {A : Type 0} (edit : List (Option (List ℕ)) → Edit A)
     (s t : Store) (name : Name) (asks : AsksNoRoom edit) where

@@ -18,7 +18,7 @@ use Rattle.geos_kernel.proofs.Lowest.{count}
 use Rattle.chunk_calls.proofs.Named.{mem-known}
 use Rattle.chunk_calls.proofs.Values.{values-of}
 
--- a block of bytes that are a heap spells a legal one
+-- a block whose bytes are a heap represents a legal block
 block-legal : (o : Option Block) → (IsBlock o → IsHeap (bytes_in o)) → AreBytes (bytes_in o) → locks_in o ≤ 65535 → IfSome (block_in o) IsLegalBlock
 block-legal None heap bytes few = tt
 block-legal (Some b) heap bytes few = record { heap = heap-legal b.bytes (heap tt) bytes; few = few }

@@ -178,7 +178,7 @@ module _ {D : Type 0} (medium : Medium D) (v w : VmState D) (s t : Store) where
           (λ there. (let is = spares.mem h (handle Mem h there) in subst (λ o. locks_in o ≤ 65535) (sym is) (k.few (mem h))))
       counts Vm h =
           no-locks (block_at t (vm_slot h)) (λ there. few-named medium w t tied (memory_of (core_of medium w t) known.0)
-          (record { blocks = refl; file = known.1; region = refl }) (vm_name h) there refl)
+          (record { blocks = refl; file = known.1; region = refl; handles = refl }) (vm_name h) there refl)
 
   -- spans stay where the locked blocks do
   pub spans-beside : Spares s t → (f : VmFile) (stale : Staleness) → SpansStay (core_of medium v s) (core_of medium w t) f stale

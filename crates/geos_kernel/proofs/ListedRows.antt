@@ -50,7 +50,7 @@ same-uid uid is = grind (arith, nat_tests, is)
 other-uid : (uid : ℕ) → uid ≢ group_uid → (uid == group_uid) ≡ false
 other-uid uid ne = grind (arith, nat_tests, ne)
 
--- a call on what is listed, with these refusals behind that of nothing listed
+-- a call on a listed block, which tests these refusals after the test that the block is listed
 abbrev on_listed : (Choice → Memory → List (Bool × Refusal)) → (Memory → Memory) → ℕ → Call (Unit {0})
 on_listed refusals after h choice m = does m (no_listed m h ∷ refusals choice m) (after m)
 
@@ -58,7 +58,7 @@ on_listed refusals after h choice m = does m (no_listed m h ∷ refusals choice 
 abbrev on_ungrouped : (Choice → Memory → List (Bool × Refusal)) → (Memory → Memory) → ℕ → Call (Unit {0})
 on_ungrouped refusals after h choice m = does m (no_listed m h ∷ names_group m h ∷ refusals choice m) (after m)
 
--- the refusals of a lock behind those
+-- the refusals of a lock after that test
 abbrev lock-refusals : ℕ → Choice → Memory → List (Bool × Refusal)
 lock-refusals h choice m = locks_full m (vm h) ∷ bringing choice m h
 

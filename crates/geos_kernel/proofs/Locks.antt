@@ -46,8 +46,8 @@ use Rattle.geos_kernel.proofs.Rowed.{does-willing, row-calls}
 use Rattle.geos_kernel.proofs.Seen.{memory-known}
 use Rattle.geos_kernel.proofs.Stays.{Same, kernel-on, spans-same, stands-on, stands-same}
 
--- what the blocks ensure of a call on a slot: it is done where there is a block and nothing of its
--- count forbids it, and leaves these blocks; else they are as they were
+-- what the blocks ensure of a call on a slot: it succeeds if there is a block and its count does not forbid the call,
+-- and then leaves these blocks; otherwise it leaves the blocks as they were
 abbrev pub DoesSlot : (ℕ → Type 0) → Store → Store → Store → ℕ → Result (Unit {0}) HandleError → Type 0
 DoesSlot Forbidden after old new slot r =
     OnOk r (store.IsThere old slot) × OnOk r (new ≡ after)
@@ -150,7 +150,7 @@ module _ {D : Type 0} (medium : Medium D) (v : VmState D) (s : Store) (name : Na
   relocked-kernel : (n : ℕ) → n ≤ 65535 → store.IsThere s slot → IsKernel medium v (relocked n)
   relocked-kernel n few there =
       let f = k.known in
-      let after = relocked-memory (memory_of (core s) f.0) n few there (record { blocks = refl; file = f.1; region = refl }) in
+      let after = relocked-memory (memory_of (core s) f.0) n few there (record { blocks = refl; file = f.1; region = refl; handles = refl }) in
       kernel-on medium v s (relocked n) k (relocked-tied n there) ((model.with_locks (memory_of (core s) f.0) name n).file, after.file)
       refl (relocked-same n there) (relocked-counts n few there)
 
@@ -166,7 +166,7 @@ module _ {D : Type 0} (medium : Medium D) (v : VmState D) (s : Store) (name : Na
   unlock-spans f n there span ref st fresh = stands-other n span ref
       (other-slot s ref.name name k.laid (there_of_locks s (slot_of ref.name) st.locked) there fresh) st
 
-  -- a lock that is given back
+  -- an unlock
   given-back : (f : VmFile) (n : ℕ) → model.locks_of (memory_of (core s) f) name ≡ n + 1 → store.IsThere s slot
       → SpansStay (core s) (core (relocked n)) f (OfLock name)
   given-back f zero one there span ref st fresh =
@@ -200,8 +200,8 @@ module _ {D : Type 0} (medium : Medium D) (v : VmState D) (s : Store) (name : Na
 
 -- Calls on a block of global memory as a whole
 
--- such a call, by its row: it is refused where there is no block, and where a test of its count
--- forbids it; else it changes memory
+-- such a call, by its row: it is refused if there is no block, or if a test of the count forbids it; otherwise it
+-- changes memory
 abbrev on_whole : (ℕ → Bool) → (Memory → Name → Memory) → ℕ → Call (Unit {0})
 on_whole is_forbidden changed h choice memory = record {
   refusals = (is_none (model.block_of memory (mem h)), BadHandle) ∷ (is_forbidden (model.locks_of memory (mem h)), Locked) ∷ [];
@@ -218,7 +218,7 @@ record LeavesBlocks {D : Type 0} (medium : Medium D) (v : VmState D) (s after : 
   spans : (f : VmFile) → SpansStay (core_of medium v s) (core_of medium v after) f Nothing
   kernel : IsKernel medium v after
 
--- a test of what is not so
+-- a test of a false proposition returns false
 unforbidden : {P : Type 0} (b : Bool) → Decides b P → (P → ⊥) → b ≡ false
 unforbidden true d never = absurd (never (d.0 refl))
 unforbidden false d never = refl
@@ -345,7 +345,7 @@ module _ {D : Type 0} (medium : Medium D) (v : VmState D) (s : Store) (h : ℕ) 
       let q = handle_of_there s s (mem h) refl k.laid there in
       let tied = mem-tied medium v s gone h q k.tied (gone-keeps there) in
       let f = k.known in
-      let after = gone-memory there (memory_of (sees s) f.0) (record { blocks = refl; file = f.1; region = refl }) in
+      let after = gone-memory there (memory_of (sees s) f.0) (record { blocks = refl; file = f.1; region = refl; handles = refl }) in
       kernel-on medium v s gone k tied (f.0, after.file) refl (gone-same there) (gone-counts there)
 
   gone-leaves : store.IsThere s mem_slot → (0 < store.locks_of s mem_slot → ⊥) → LeavesBlocks medium v s gone (λ m. model.with_block m (mem h) None)

@@ -1,14 +1,14 @@
 -- The lowest handle that is free.
-use Rattle.std.proofs.Common.{◌≡◌, ℕ, zero, suc, ◌<◌, length, length-take, take, get_or, Some, None, true, false, refl, ap, ◌∙◌, arith}
-use Rattle.std.specs.Prelude.{is_none, nat_lt}
+use Rattle.std.proofs.Common.{◌≡◌, ℕ, zero, suc, ◌<◌, ◌≤◌, length, length-take, take, get_or, Some, None, true, false, refl, ap, ◌∙◌, arith}
+use Rattle.std.specs.Prelude.{is_none, nat_le, nat_lt}
 use Rattle.std.specs.List.{position_or_len}
 use Rattle.std.proofs.lemmas.List.{length-map}
 use Rattle.std.proofs.lemmas.List.Sums.{position_or_len_is}
 use Rattle.geos_terms.specs.declared.name.Owner.TheVariants.{Mem}
 use Rattle.geos_terms.specs.Names.{mem}
-use Rattle.geos_calls.specs.Memory.{Memory, lowest_handle}
+use Rattle.geos_calls.specs.Memory.{Memory, lowest_handle, lowest_of, up_to}
 use Rattle.block_handles.specs.Names.{slot_of}
-use Rattle.block_handles.specs.Store.{Store, block_at, IsThere}
+use Rattle.block_handles.specs.Store.{Store, block_at, handles_of, IsThere}
 use Rattle.block_handles.specs.Used.{IsLowest, AllInUse}
 use Rattle.vm_file.specs.Device.{Medium}
 use Rattle.vm_blocks.specs.FileOf.{IsMemoryOf}
@@ -28,15 +28,28 @@ module _ {D : Type 0} (medium : Medium D) (v : VmState D) (s : Store) (m : Memor
   unused : (i : ℕ) → (IsThere s (slot_of (mem (suc i))) → ⊥) → is_none (get_or m.blocks i None) ≡ true
   unused i absent = ap is_none (mem-known medium v s tied m is (suc i) ∙ view-absent (block_at s (slot_of (mem (suc i)))) absent)
 
-  pub lowest-some : (h : ℕ) → IsLowest s Mem h → lowest_handle m Mem ≡ Some h
-  lowest-some zero l = absurd (omega (arith, l.handle.0))
-  lowest-some (suc i) l =
+  -- the lowest free handle is the model's
+  lowest-is : (h : ℕ) → IsLowest s Mem h → lowest_of m.blocks ≡ Some h
+  lowest-is zero l = absurd (omega (arith, l.handle.0))
+  lowest-is (suc i) l =
       let lt : i < 1024 = omega (arith, l.handle.1) in
       let first : position_or_len is_none m.blocks ≡ i =
       position_or_len_is is_none m.blocks i None (omega (arith, count)) (λ j below. used j (l.lower (suc j) (omega arith, omega arith) (omega arith)))
       (λ inside. unused i l.free) in
       let inside : nat_lt i (length m.blocks) ≡ true = rw count (grind (arith, lt)) in
       rw (first, inside) refl
+
+  -- a new block may get it
+  pub lowest-some : (h : ℕ) → IsLowest s Mem h → h ≤ handles_of s → lowest_handle m Mem ≡ Some h
+  lowest-some h l within =
+      let fits : nat_le h m.handles ≡ true = rw is.handles (grind (arith, within)) in
+      ap (up_to m.handles) (lowest-is h l) ∙ rw fits refl
+
+  -- or it is above the limit
+  pub lowest-high : (h : ℕ) → IsLowest s Mem h → handles_of s < h → lowest_handle m Mem ≡ None
+  lowest-high h l above =
+      let over : nat_le h m.handles ≡ false = rw is.handles (grind (arith, above)) in
+      ap (up_to m.handles) (lowest-is h l) ∙ rw over refl
 
   pub lowest-none : AllInUse s Mem → lowest_handle m Mem ≡ None
   lowest-none all =

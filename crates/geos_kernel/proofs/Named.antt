@@ -25,12 +25,12 @@ use Rattle.chunk_calls.proofs.Named.{mem-known}
 pub other-slot : (s : Store) (a b : Name) → IsLaidOut s → IsThere s (slot_of a) → IsThere s (slot_of b) → a ≢ b → slot_of a ≢ slot_of b
 other-slot s a b laid one two ne same = ne (same-name a b (handle_of_there s s a refl laid one) (handle_of_there s s b refl laid two) same)
 
--- what is no block spells none
+-- a slot without a block represents no block
 pub view-absent : (o : Option Block) → (IsBlock o → ⊥) → block_in o ≡ None
 view-absent None absent = refl
 view-absent (Some b) absent = absurd (absent tt)
 
--- a block there spells a block
+-- a slot with a block represents a block
 pub view-there : (o : Option Block) → IsBlock o → block_in o ≡ Some (spelled (locks_in o) (bytes_in o))
 view-there None there = absurd there
 view-there (Some b) there = refl

@@ -1,5 +1,5 @@
 -- The call that makes a block.
-use Rattle.std.proofs.Common.{◌≡◌, ◌≢◌, ℕ, ◌<◌, Option, Some, None, true, refl, sym, ap, ◌∙◌, arith, subst}
+use Rattle.std.proofs.Common.{◌≡◌, ◌≢◌, ℕ, ◌<◌, ◌≤◌, Option, Some, None, true, refl, sym, ap, ◌∙◌, arith, subst}
 use Rattle.std.specs.Prelude.{Ok, Err}
 use Rattle.geos_terms.specs.declared.name.Owner.TheVariants.{Mem}
 use Rattle.geos_terms.specs.declared.refusal.Refusal.TheVariants.{NoHandle, NoRoom}
@@ -33,7 +33,7 @@ use Rattle.chunk_calls.specs.Others.{KeepsBut}
 use Rattle.chunk_calls.proofs.Kept.{mem-changed, mem-tied}
 use Rattle.chunk_calls.proofs.Named.{slot_of-mem}
 use Rattle.geos_kernel.proofs.Changed.{slot-keeps, slot-other, slot-own}
-use Rattle.geos_kernel.proofs.Lowest.{lowest-some, lowest-none}
+use Rattle.geos_kernel.proofs.Lowest.{lowest-some, lowest-high, lowest-none}
 use Rattle.geos_kernel.proofs.Rowed.{does-cramped, does-willing, row-calls}
 use Rattle.geos_kernel.proofs.Rows.{mnew-ok, mnew-full, mnew-tight}
 use Rattle.geos_kernel.proofs.Stays.{kernel-but, kernel-thins, stands-same, thins-stands}
@@ -49,9 +49,17 @@ module _ {D : Type 0} (medium : Medium D) (v : VmState D) (s : Store) (k : IsKer
       (does-willing medium table.mnew (Err NoHandle) v s s (λ m is. (m, is, mnew-full m (lowest-none medium v s m k.tied is all))))
       (λ f tied choice span ref st fresh. st)
 
+  -- Each handle up to the limit is in use
+
+  pub mnew-high-calls : (h : ℕ) → IsLowest s Mem h → store.handles_of s < h
+      → Calls (medium.honest v.file.device) table.mnew (Err NoHandle) (sees s) (sees s)
+  mnew-high-calls h low above = row-calls medium table.mnew (Err NoHandle) v s s
+      (does-willing medium table.mnew (Err NoHandle) v s s (λ m is. (m, is, mnew-full m (lowest-high medium v s m k.tied is h low above))))
+      (λ f tied choice span ref st fresh. st)
+
   -- No stretch of the region has room
 
-  module _ (t : Store) (h : ℕ) (low : IsLowest s Mem h) (lacks : room.LacksRoom v s t (mem h) 64) where
+  module _ (t : Store) (h : ℕ) (low : IsLowest s Mem h) (within : h ≤ store.handles_of s) (lacks : room.LacksRoom v s t (mem h) 64) where
     crowded-tied : IsTied medium v t
     crowded-tied = tied-thins medium v s t 0 k.tied lacks.thins
 
@@ -61,18 +69,18 @@ module _ {D : Type 0} (medium : Medium D) (v : VmState D) (s : Store) (k : IsKer
         let now = memory-thins medium v s t m is 0 k.tied lacks.thins in
         let crowded = subst (λ slot. IsCrowded t slot 64) (slot_of-mem h low.handle) lacks.no_room.crowded in
         let tight : is_tight m (mem h) 64 ≡ true = tight-mem medium v t m crowded-tied now h 64 low.handle lacks.none crowded in
-        (m, now, mnew-tight m m h (lowest-some medium v s m k.tied is h low) tight refl)))
+        (m, now, mnew-tight m m h (lowest-some medium v s m k.tied is h low within) tight refl)))
         (λ f tied choice span ref st fresh. thins-stands v 0 (sees s) (sees t) span ref lacks.thins st)
 
     pub kernel-crowded : IsKernel medium v t
     kernel-crowded =
         let f = k.known in
-        let now = memory-thins medium v s t (memory_of (sees s) f.0) (record { blocks = refl; file = f.1; region = refl }) 0 k.tied lacks.thins in
+        let now = memory-thins medium v s t (memory_of (sees s) f.0) (record { blocks = refl; file = f.1; region = refl; handles = refl }) 0 k.tied lacks.thins in
         kernel-thins medium v s t 0 k lacks.thins crowded-tied (f.0, now.file)
 
   -- It was made
 
-  module _ (t : Store) (h : ℕ) (low : IsLowest s Mem h) (makes : MakesRoomFor v s t (mem h)) where
+  module _ (t : Store) (h : ℕ) (low : IsLowest s Mem h) (within : h ≤ store.handles_of s) (makes : MakesRoomFor v s t (mem h)) where
     abbrev slot : ℕ
     slot = slot_of (mem h)
 
@@ -102,7 +110,7 @@ module _ {D : Type 0} (medium : Medium D) (v : VmState D) (s : Store) (k : IsKer
         subst (λ b. IsMemoryOf medium v t (model.with_block m (mem h) (Some b))) fresh-block
         (mem-changed medium v makes.mid t h low.handle thin keeps m now (Some (spelled 1 makes.made.bytes)) (sym (ap block_in at-own)))
 
-    -- a span stands in another block, which is locked and stays
+    -- a span in another block, which is locked and stays, stays valid
     made-spans : (f : VmFile) → SpansStay (sees s) (sees t) f Nothing
     made-spans f span ref st fresh =
         let mid = thins-stands v 0 (sees s) (sees makes.mid) span ref makes.thins st in
@@ -121,14 +129,14 @@ module _ {D : Type 0} (medium : Medium D) (v : VmState D) (s : Store) (k : IsKer
           model.with_block m (mem h) (Some (record { locks = 1; heap = model.new_heap })),
           made-memory m is,
           mnew-ok m (model.with_block m (mem h) (Some (record { locks = 1; heap = model.new_heap }))) h
-              (lowest-some medium v s m k.tied is h low) refl,
+              (lowest-some medium v s m k.tied is h low within) refl,
         )))
         (λ f tied choice. made-spans f)
 
     pub kernel-made : IsKernel medium v t
     kernel-made =
         let f = k.known in
-        let before : IsMemoryOf medium v s (memory_of (sees s) f.0) = record { blocks = refl; file = f.1; region = refl } in
+        let before : IsMemoryOf medium v s (memory_of (sees s) f.0) = record { blocks = refl; file = f.1; region = refl; handles = refl } in
         let now = memory-thins medium v s makes.mid (memory_of (sees s) f.0) before 0 k.tied makes.thins in
         let after = made-memory (memory_of (sees s) f.0) before in
         let mid = kernel-thins medium v s makes.mid 0 k makes.thins thin (f.0, now.file) in

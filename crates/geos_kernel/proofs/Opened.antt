@@ -40,11 +40,12 @@ module _ (s : Store) (len : ℕ) (empty : IsEmpty s len) where
 
   -- then there is none in memory
   pub empty-memory : (core : KernelState) → core.blocks ≡ s → (f : VmFile)
-      → memory_of core f ≡ record { blocks = replicate 1024 None; file = f; region = len }
+      → memory_of core f ≡ record { blocks = replicate 1024 None; file = f; region = len; handles = 1024 }
   empty-memory core is f =
       let blocks = ap (λ (t : Store). map block_in (take 1024 t.blocks)) is ∙ no-blocks in
       let region = ap (λ (t : Store). t.len.most) is ∙ ap (λ l. l.most) empty.long in
-      λ k. record { blocks = blocks k; file = f; region = region k }
+      let handles = ap (λ (t : Store). t.len.handles) is ∙ ap (λ l. l.handles) empty.long in
+      λ k. record { blocks = blocks k; file = f; region = region k; handles = handles k }
 
   -- a kernel begins, and the model knows the file as the device holds it
   pub kernel-opened : {D : Type 0} (medium : Medium D) (v : VmState D) (m : Memory) → len ≤ 16777216 → IsTied medium v s

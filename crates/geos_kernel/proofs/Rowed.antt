@@ -1,5 +1,5 @@
--- Calls that do their rows, where nothing is refused from outside, or room alone; and the calls
--- that they are to who sees the kernel.
+-- Calls that do their rows if nothing is refused from outside, or only room; and the kernel calls that follow from
+-- these rows.
 use Rattle.std.proofs.Common.{◌≡◌, refl, inl}
 use Rattle.std.specs.Prelude.{Result}
 use Rattle.geos_terms.specs.declared.refusal.Refusal.{Refusal}
@@ -29,7 +29,7 @@ module _ {D : Type 0} (medium : Medium D) {A : Type 0} (call : Call A) (result :
       × (outcome (effect_of call willing m) ≡ (result, n))) → DoesRow medium call result v s v t
   does-willing does m is = let d = does m is in (willing, willing-chosen v.file.device v.file.device, d.0, d.1, d.2)
 
-  -- of one that is refused room
+  -- of a call that is refused room
   pub does-cramped : ((m : Memory) → IsMemoryOf medium v s m → (n : Memory) × IsMemoryOf medium v t n
       × (outcome (effect_of call cramped m) ≡ (result, n))) → DoesRow medium call result v s v t
   does-cramped does m is = let d = does m is in (cramped, cramped-chosen v.file.device v.file.device, d.0, d.1, d.2)

@@ -71,9 +71,9 @@ module _ {D : Type 0} (medium : Medium D) (v : VmState D) (s : Store) where
 
   -- the model's memory, where the model knows such a file
   pub memory-known : (f : VmFile) → IsFileOf good core f → IsMemoryOf medium v s (memory_of core f)
-  memory-known f is = record { blocks = refl; file = file-known f is; region = refl }
+  memory-known f is = record { blocks = refl; file = file-known f is; region = refl; handles = refl }
 
--- Where no more is said to be honest than was
+-- If the claim of honesty becomes no stronger
 
 -- a file that the model may know still is one
 pub file-on : (A B : Type 0) → (B → A) → (core : KernelState) (f : VmFile) → IsFileOf A core f → IsFileOf B core f
@@ -114,7 +114,8 @@ module _ {D : Type 0} (medium : Medium D) {A : Type 0} (call : Call A) (result :
   new = core_of medium w t
 
   same-memory : (n : Memory) → IsMemoryOf medium w t n → n ≡ memory_of new n.file
-  same-memory n is = (let blocks = is.blocks in let region = is.region in λ k. record { blocks = blocks k; file = n.file; region = region k })
+  same-memory n is = (let blocks = is.blocks in let region = is.region in let handles = is.handles in
+      λ k. record { blocks = blocks k; file = n.file; region = region k; handles = handles k })
 
   -- a call that does its row answers as the row says
   pub row-answers : DoesRow medium call result v s w t → (medium.honest v.file.device → medium.honest w.file.device)
@@ -135,7 +136,7 @@ module _ {D : Type 0} (medium : Medium D) {A : Type 0} (call : Call A) (result :
   pub row-known : DoesRow medium call result v s w t → (f : VmFile) × vm.IsFileOf medium.image medium.honest v s f
       → (f : VmFile) × vm.IsFileOf medium.image medium.honest w t f
   row-known does (f, is) =
-      let b = does (memory_of old f) (record { blocks = refl; file = is; region = refl }) in
+      let b = does (memory_of old f) (record { blocks = refl; file = is; region = refl; handles = refl }) in
       (b.2.file, b.3.file)
 
 -- a call on what is in a kernel is one on the kernel
@@ -144,7 +145,7 @@ pub calls-seen : {D A : Type 0} (medium : Medium D) (v : VmState D) (s : Store) 
     → Calls (medium.honest v.file.device) call r (core_of medium v s) new → Calls (medium.honest k.device) call r k.core new
 calls-seen medium v s k is {call} {r} {new} calls = subst (λ k. Calls (medium.honest k.device) call r k.core new) is calls
 
--- a call that changes blocks alone
+-- a call that changes only blocks
 pub blocks-alone : {D : Type 0} (medium : Medium D) (v : VmState D) (s t : Store) (k : KernelOn D) → kernel_of medium v s ≡ k
     → LeavesVm k (kernel_of medium v t)
 blocks-alone medium v s t k is = record { device = ap (λ k. k.device) is; vm = ap (λ k. k.core.vm) is }

@@ -24,7 +24,7 @@ use Rattle.geos_kernel.specs.Kernel.{IsKernel}
 
 -- Spans
 
--- a span stands on where its block keeps its bytes and its place, and stays locked
+-- a span stays valid if its block has the same bytes and place, and stays locked
 pub stands-on : (old new : KernelState) (span : Span) (ref : Reference)
     → bytes_of new.blocks (slot_of ref.name) ≡ bytes_of old.blocks (slot_of ref.name) → 0 < locks_of new.blocks (slot_of ref.name)
     → place_of new.blocks (slot_of ref.name) ≡ place_of old.blocks (slot_of ref.name) → Stands old span ref → Stands new span ref
@@ -52,7 +52,7 @@ spans-same old new f stale e span ref s fresh = stands-same old new span ref (ap
 -- Blocks that were discarded
 
 module _ {D : Type 0} (v : VmState D) (s t : Store) (but : ℕ) where
-  -- a block that stays or goes in making room is kept or goes
+  -- a block that stays or is evicted to make room
   pub stays-kept : (slot : ℕ) → StaysOrGoes v s t but slot → KeptOrGoes v s t but slot
   stays-kept slot (inl same) = inl (same.0, λ some. same.1)
   stays-kept slot (inr goes) = inr goes
@@ -61,7 +61,7 @@ module _ {D : Type 0} (v : VmState D) (s t : Store) (but : ℕ) where
   pub thins-locked : Thins v s t but → (slot : ℕ) → 0 < locks_of s slot → (block_at t slot ≡ block_at s slot) × (place_of t slot ≡ place_of s slot)
   thins-locked thins slot locked = goes-free v s t but slot locked (stays-kept slot (thins.each slot))
 
--- spans stand on while blocks are discarded
+-- spans stay valid while blocks are discarded
 pub thins-stands : {D : Type 0} (v : VmState D) (but : ℕ) (old new : KernelState) (span : Span) (ref : Reference)
     → Thins v old.blocks new.blocks but → Stands old span ref → Stands new span ref
 thins-stands v but old new span ref thins s =

@@ -17,7 +17,7 @@ use Rattle.geos_kernel.specs.Kernel.{LeavesVm}
 use Rattle.geos_kernel.specs.View.{IsFileOf, KernelOn, Seen, core_of, kernel_of, memory_of}
 use Rattle.geos_kernel.proofs.Seen.{file-on, memory-known}
 
--- what `open` finds of what the file keeps is what the model has as kept
+-- what `open` finds of the file's committed pair is the model's committed pair
 abbrev pub FindsKept : {D : Type 0} → Medium D → KernelOn D → Type 0
 FindsKept medium k = (f : VmFile) → IsFileOf (medium.honest k.device) k.core f → medium.honest k.device → (c : List ℕ)
     → Finds medium.image (vm_file_of k) c → OpensAsKept f.kept c
@@ -77,7 +77,7 @@ module _ {D : Type 0} (medium : Medium D) (old new : KernelOn D) where
     steadily = steadily;
   }
 
--- nothing was asked
+-- the device was not used
 pub between-same : {D : Type 0} (medium : Medium D) (k : KernelOn D) → Between medium k k
 between-same medium k = between-still medium k k refl refl
 

@@ -104,7 +104,7 @@ module _ {D : Type 0} (medium : Medium D) (v w : VmState D) (s t : Store) (k : K
             (sym (ap (λ (x : VmState D). held_at x h) same ∙ listed))
             (record { none = subst (λ (x : VmState D). NoneIdle x t h) (sym same) lacking.none; no_room = lacking.no_room })
 
-    -- a refusal but for room or the device
+    -- a refusal for another reason than room or the device
     pub lock-refused : (r : Result (Unit {0}) LockError) → IfThere r → (r ≡ Err lock.BadHandle → (w ≡ v) × (t ≡ s))
         → (r ≡ Err lock.Locked → locks_of s (vm_slot h) ≡ 65535)
         → (of_lock r ≡ Err refusal.NoRoom → ⊥) → (of_lock r ≡ Err refusal.Disk → ⊥) → OnErr (of_lock r) (kernel_of medium w t ≡ k)

@@ -24,6 +24,6 @@ module _ {D : Type 0} (medium : Medium D) (v : VmState D) (s : Store) (m : Memor
     λ none h p. sym (locks-known medium v s tied m is (vm h)) ∙ none h,
   )
 
-  -- and so where this is told
+  -- and so does the truth value of this test
   pub none-told : (b : Bool) → IsTrue b ↔ NoneLocked s → IsTrue b ↔ ((h : ℕ) → locks_of m (vm h) ≡ 0)
   none-told b same = (λ t. none-known.0 (same.0 t), λ none. same.1 (none-known.1 none))

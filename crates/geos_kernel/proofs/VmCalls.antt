@@ -101,7 +101,7 @@ unlisted-free medium v s h tied p none = on (held_at v h) (block_at s (vm_slot h
     on None (Some b) none t = absurd t
     on (Some e) b none t = absurd cc
 
--- a new block was made so, or was not, for want of room or of handles
+-- a new block was made, or was not, for lack of room or of handles
 pub data Made {D : Type 0} (v w : VmState D) (s t : Store) (uid n : ℕ) : Type 0 where
   IsMade : (h : ℕ) → Adds v w s t uid n h → Made v w s t uid n
   HasNoRoom : LacksRoomForNew v s t → w ≡ v → Made v w s t uid n
@@ -120,7 +120,7 @@ module _ {D : Type 0} (medium : Medium D) (v w : VmState D) (s t : Store) (uid n
   made-file (HasNoRoom lacks same) = ap (λ (x : VmState D). x.file) same
   made-file (HasNoHandle blocks same) = ap (λ (x : VmState D). x.file) same
 
-  -- as it is said below the kernel, and for groups
+  -- the same from the contract of `vm_blocks`, and for groups
   pub made-below : (r : Result ℕ NewError) → IfOk r (Adds v w s t uid n) → (r ≡ Err new.NoRoom → LacksRoomForNew v s t)
       → (r ≡ Err new.NoHandle → t ≡ s) → OnErr r (w ≡ v) → Made v w s t uid n
   made-below (Ok h) ok room stays err = IsMade h ok

@@ -1,4 +1,4 @@
--- What the kernel's calls make of the VM file on its device.
+-- What the kernel's calls do to the VM file on its device.
 use Rattle.std.specs.Prelude.{◌≡◌, ◌↔◌, ◌⊎◌, ℕ, List, Option, OnErr, OnOk, Result, Err}
 use Rattle.geos_terms.specs.Edits.{Edit}
 use Rattle.geos_terms.specs.declared.refusal.Refusal.{Refusal}
@@ -24,31 +24,32 @@ use Rattle.geos_kernel.specs.View.{IsFileOf, KernelOn, file_over}
 abbrev pub vm_file_of : {D : Type 0} → KernelOn D → FileState D
 vm_file_of k = file_over k.device k.core.vm.file
 
--- a stop now leaves a file in which `open` finds what the model has as kept
+-- if the program stops now, `open` finds in the file the pair that the model has committed
 abbrev pub LeavesKept : {D : Type 0} → Medium D → KernelOn D → Type 0
 LeavesKept medium k = (f : VmFile) → IsFileOf (medium.honest k.device) k.core f → medium.honest k.device → (c : List ℕ)
     → medium.may_leave k.device c → OpensAsKept f.kept c
 
--- from the one kernel to the other a stop leaves a file in which `open` finds what the model has as kept beside the one, or beside the other
+-- if the program stops between the two kernels, `open` finds in the file the committed pair of the one kernel's model
+-- or of the other's
 abbrev pub Stops : {D : Type 0} → Medium D → KernelOn D → KernelOn D → Type 0
 Stops medium old new = medium.honest old.device → (f g : VmFile) → IsFileOf (medium.honest old.device) old.core f
     → IsFileOf (medium.honest old.device) new.core g
     → Passes medium.may_have_left old.device new.device (λ c. OpensAsKept f.kept c ⊎ OpensAsKept g.kept c)
 
--- what holds of the device from the one kernel to the other: it is as honest as before; a stop leaves what the model has as kept; and no
--- call failed of one that fails at none within its length and has room for the file
+-- what holds of the device between the two kernels: it stays honest; a stop leaves a committed pair; and no call
+-- failed on a device that never fails within its length and has room for the file
 pub record Between {D : Type 0} (medium : Medium D) (old new : KernelOn D) : Type 0 where
   pub honest : medium.honest new.device ↔ medium.honest old.device
   pub stops : Stops medium old new
   pub steadily : Steadily medium (vm_file_of old) (vm_file_of new)
 
--- a call that asks the device nothing, and leaves what the file keeps
+-- a call that does not use the device, and leaves the committed pair as it was
 pub record AsksNothing {D : Type 0} (old new : KernelOn D) : Type 0 where
   pub device : new.device ≡ old.device
   pub file : new.core.vm.file ≡ old.core.vm.file
 
--- a call that reads the device at most: it writes nothing, and what the file keeps is the same; on
--- an honest device it fails only where the count of failures rose, which it does nowhere else
+-- a call that at most reads the device: it writes nothing, and the committed pair is the same. On an honest device
+-- the call fails only if the count of failures rose, and otherwise the count is the same
 pub record ReadsFile {D : Type 0} (medium : Medium D) (fails : Type 0) (old new : KernelOn D) : Type 0 where
   pub reads : ReadsOnly medium old.device new.device
   pub file : vm_file_of new ≡ file_over new.device old.core.vm.file
@@ -56,15 +57,15 @@ pub record ReadsFile {D : Type 0} (medium : Medium D) (fails : Type 0) (old new 
   pub counted : (fails → ⊥) → medium.failed new.device ≡ medium.failed old.device
   pub between : Between medium old new
 
--- a call on a block of the file, where that is in memory: it asks the device nothing, and a refusal for
--- another reason than room leaves all blocks as they were. A block that the device refuses is not there
+-- a call on a block of the file. If the block is in memory, the call does not use the device, and a refusal for
+-- another reason than room leaves all blocks as they were. After a refusal by the device the block is not in memory
 pub record InMemory {D A : Type 0} (h : ℕ) (result : Result A Refusal) (old new : KernelOn D) : Type 0 where
   pub there : IsThere old.core.blocks (vm_slot h) → AsksNothing old new × (result ≡ Err Disk → ⊥)
   pub refused : IsThere old.core.blocks (vm_slot h) → StaysIfRefused result old.core.blocks new.core.blocks
   pub absent : result ≡ Err Disk → IsThere new.core.blocks (vm_slot h) → ⊥
 
--- a call on the items of a group: it answers as its row says; room is wanting only for what the group
--- needs by its edit; a group that is in memory asks the device nothing, and of none nothing changes
+-- a call on the items of a group: its result is what its row says. NoRoom occurs only if the group needs more room
+-- after the edit. If the group is in memory, the call does not read the device; if there is no group, nothing changes
 pub record CallsItem {D A : Type 0} (medium : Medium D) (call : Call A) (edit : List (Option (List ℕ)) → Edit A)
     (g : ℕ) (result : Result A Refusal) (old new : KernelOn D) : Type 0 where
   pub calls : Calls (medium.honest old.device) call result old.core new.core
@@ -73,8 +74,8 @@ pub record CallsItem {D A : Type 0} (medium : Medium D) (call : Call A) (edit : 
   pub no_group : (IsGroup old.core.vm g → ⊥) → new ≡ old
   pub device : ReadsFile medium (result ≡ Err Disk) old new
 
--- a commit of the current directory, with the blocks as they are in memory or else as the file has
--- them: what it keeps, what each refusal leaves, in memory too, and what a stop at any moment does
+-- a commit of the current directory, with each block as it is in memory, otherwise as the file has it: what it
+-- commits, what each refusal leaves on the device and in memory, and what a stop at any moment leaves
 pub record Commits {D : Type 0} (medium : Medium D) (how : How) (old new : KernelOn D) (result : Result (Unit {0}) Refusal) : Type 0 where
   pub answer : Result (Unit {0}) CommitError
   pub same : result ≡ of_commit answer

@@ -1,4 +1,4 @@
--- Spans of the region, and the references that they stand for.
+-- Spans of the region, and the references that they are valid for.
 use Rattle.std.specs.Prelude.{◌≡◌, ◌≢◌, ℕ, ◌+◌, ◌<◌, ◌≤◌, ◌==◌, if◌then◌else◌, List, length, Option, Some, None, IfSome}
 use Rattle.geos_terms.specs.declared.name.Name.{Name}
 use Rattle.block_handles.specs.Names.{slot_of}
@@ -11,13 +11,13 @@ use Rattle.geos_calls.specs.Effects.{Reference, Staleness, Nothing, InBlock, OfL
 use Rattle.geos_kernel.specs.declared.span.Span.{Span}
 use Rattle.geos_kernel.specs.View.{KernelState, memory_of, chunks_at, MayChange}
 
--- the bytes that a reference names lie at this offset of the region
+-- the bytes of a reference are at this offset of the region
 abbrev pub LiesAt : KernelState → Reference → ℕ → Type 0
 LiesAt s ref at =
     IfSome (block.place_of (bytes_of s.blocks (slot_of ref.name)) ref.chunk) (λ p. at ≡ place_of s.blocks (slot_of ref.name) + p.at + ref.start)
 
--- a span stands for a reference: its block is locked, its chunk is there and long enough, and
--- the span lies where those bytes of the chunk lie now
+-- a span is valid for a reference: the block is locked, the chunk exists and is long enough, and the span is the
+-- place where these bytes of the chunk are now
 pub record Stands (s : KernelState) (span : Span) (ref : Reference) : Type 0 where
   pub bytes : List ℕ
   pub locked : 0 < locks_of s.blocks (slot_of ref.name)
@@ -26,8 +26,8 @@ pub record Stands (s : KernelState) (span : Span) (ref : Reference) : Type 0 whe
   pub len : span.len ≡ ref.len
   pub place : 0 < ref.len → LiesAt s ref span.at
 
--- the block whose references a call makes stale, as the kernel sees it: a lock that is given
--- back does where it is the last
+-- the block whose references a call makes stale, as the kernel sees it: an unlock does so if it releases the last
+-- lock
 abbrev pub stale_block : model.Memory → Staleness → Option Name
 stale_block before Nothing = None
 stale_block before (InBlock name) = Some name
@@ -37,14 +37,15 @@ stale_block before (OfLock name) = if model.locks_of before name == 1 then Some 
 abbrev pub IsFresh : model.Memory → Staleness → Reference → Type 0
 IsFresh before stale ref = IfSome (stale_block before stale) (λ name. ref.name ≢ name)
 
--- a span that stood, and was not made stale in memory with this VM file, stands
+-- a span that was valid for a reference stays valid, unless the call made the reference stale in memory with this VM
+-- file
 abbrev pub SpansStay : KernelState → KernelState → VmFile → Staleness → Type 0
 SpansStay old new f stale = (span : Span) (ref : Reference) → Stands old span ref → IsFresh (memory_of old f) stale ref → Stands new span ref
 
--- a span stands for some reference
+-- a span is valid for some reference
 abbrev pub IsStanding : KernelState → Span → Type 0
 IsStanding s span = (ref : Reference) × Stands s span ref
 
--- a span stands for some reference into a block whose bytes may be changed
+-- a span is valid for some reference into a block whose bytes may be changed
 abbrev pub IsWritable : KernelState → Span → Type 0
 IsWritable s span = (ref : Reference) × Stands s span ref × MayChange s ref.name

@@ -1,4 +1,4 @@
--- Calls made one after another, and what their rows in the table of calls make of them.
+-- Sequences of calls, and the runs of their rows in the table of calls.
 use Rattle.std.specs.Prelude.{◌≡◌, ℕ, List, [], ◌∷◌, map, Result}
 use Rattle.geos_terms.specs.declared.refusal.Refusal.{Refusal}
 use Rattle.geos_calls.specs.VmFile.{VmFile}
@@ -9,32 +9,31 @@ use Rattle.geos_kernel.specs.Kernel.{IsChosen, Calls, LeadsToSpan, StandsFor}
 use Rattle.geos_kernel.specs.Spans.{Stands, IsFresh}
 use Rattle.geos_kernel.specs.View.{KernelState, memory_of, IsFileOf}
 
--- a call that was made, by its row, and what it answered: nothing, a number, two numbers or a
--- reference
+-- a call by its row, with its result: nothing, a number, two numbers or a reference
 pub data Turn : Type 0 where
   Does : Call (Unit {0}) → Result (Unit {0}) Refusal → Turn
   Tells : Call ℕ → Result ℕ Refusal → Turn
   TellsTwo : Call (ℕ × ℕ) → Result (ℕ × ℕ) Refusal → Turn
   Refers : Call Reference → Result Reference Refusal → Turn
 
--- the kernel answered it so, where `good` says that its device is honest
+-- the kernel returned this result; `good` says that its device is honest
 abbrev pub Answered : Type 0 → Turn → KernelState → KernelState → Type 0
 Answered good (Does row result) old new = Calls good row result old new
 Answered good (Tells row result) old new = Calls good row result old new
 Answered good (TellsTwo row result) old new = Calls good row result old new
 Answered good (Refers row result) old new = Calls good row result old new
 
--- calls were answered one after another, each where the one before had left the kernel
+-- a sequence of calls, each from the kernel that the one before left
 abbrev pub InTurn : Type 0 → List Turn → KernelState → KernelState → Type 0
 InTurn good [] old new = new ≡ old
 InTurn good (turn ∷ turns) old new = (mid : KernelState) × Answered good turn old mid × InTurn good turns mid new
 
--- a call that was made, and what came from outside at it
+-- a call, and the choice during it
 pub record Step : Type 0 where
   pub turn : Turn
   pub choice : Choice
 
--- the row answers so, and leads from one memory to another
+-- the row returns this result, and takes one memory to another
 abbrev pub Leads : Turn → Choice → Memory → Memory → Type 0
 Leads (Does row result) choice before after = outcome (effect_of row choice before) ≡ (result, after)
 Leads (Tells row result) choice before after = outcome (effect_of row choice before) ≡ (result, after)
@@ -48,24 +47,23 @@ stale_by (Tells row result) choice before = (effect_of row choice before).stale
 stale_by (TellsTwo row result) choice before = (effect_of row choice before).stale
 stale_by (Refers row result) choice before = (effect_of row choice before).stale
 
--- the rows answer so one after another, and lead from one memory to another
+-- the rows return these results one after another, and take one memory to another
 abbrev pub Run : List Step → Memory → Memory → Type 0
 Run [] before after = after ≡ before
 Run (step ∷ steps) before after = (mid : Memory) × Leads step.turn step.choice before mid × Run steps mid after
 
--- over such a run no row makes the reference stale
+-- no row of such a run makes the reference stale
 abbrev pub Spares : (steps : List Step) (before after : Memory) → Run steps before after → Reference → Type 0
 Spares [] before after run ref = Unit {0}
 Spares (step ∷ steps) before after run ref = IsFresh before (stale_by step.turn step.choice before) ref × Spares steps run.0 after run.2 ref
 
--- what came from outside at each may come between these kernels
+-- each choice is possible between these kernels
 abbrev pub AreChosen : Type 0 → KernelState → KernelState → List Step → Type 0
 AreChosen good old new [] = Unit {0}
 AreChosen good old new (step ∷ steps) = IsChosen good old new step.choice × AreChosen good old new steps
 
--- calls that were answered one after another come to a run of their rows, from memory with this
--- VM file, under some choices; a span that stood before them, and whose reference the run did
--- not make stale, stands
+-- a sequence of calls is a run of their rows, from the memory with this VM file, under some choices. A span stays
+-- valid if the run does not make its reference stale
 pub record AnsweredByRows (good : Type 0) (turns : List Turn) (old new : KernelState) (f : VmFile) : Type 0 where
   pub steps : List Step
   pub calls : map (λ step. step.turn) steps ≡ turns
@@ -76,14 +74,14 @@ pub record AnsweredByRows (good : Type 0) (turns : List Turn) (old new : KernelS
   pub spans : (span : Span) (ref : Reference) → Stands old span ref → Spares steps (memory_of old f) (memory_of new file) run ref
       → Stands new span ref
 
--- every list of calls is answered by its rows; and a call that gives a span, or refuses it,
--- answers the reference for which the span stands
+-- every sequence of calls is a run of its rows; and a call that returns a span returns one that is valid for the
+-- reference of its row
 pub record CallsAnswerInTurn (good : Type 0) : Type 0 where
   pub lists : (turns : List Turn) (old new : KernelState) → InTurn good turns old new → (f : VmFile) → IsFileOf good old f
       → AnsweredByRows good turns old new f
   pub given : (row : Call Reference) (result : Result Span Refusal) (old new : KernelState) → LeadsToSpan good row result old new →
       (reference : Result Reference Refusal) × Calls good row reference old new × StandsFor new result reference
 
--- where one says that a device is honest, each call was answered as where the other says it
+-- a result that the kernel returns under the first claim of honesty is also one under the second
 abbrev pub AnswersAlike : Type 0 → Type 0 → Type 0
 AnswersAlike other good = (turn : Turn) (old new : KernelState) → Answered other turn old new → Answered good turn old new

@@ -1,4 +1,4 @@
--- The memory of the model that a kernel's blocks spell, beside a VM file.
+-- The memory of the model that a kernel's blocks represent, with a VM file.
 use Rattle.std.specs.Prelude.{ℕ, ◌≡◌, ◌<◌, true, List, take, map}
 use Rattle.geos_terms.specs.declared.name.Name.{Name}
 use Rattle.geos_terms.specs.declared.name.Owner.TheVariants.{Vm}
@@ -14,27 +14,26 @@ use Rattle.vm_blocks.specs.FileOf as vm
 pub use Rattle.vm_blocks.specs.Spelled.{block_in, spelled}
 pub use Rattle.chunk_calls.specs.Heaps.{chunks_at, size_at}
 
--- what contracts see of a device: the bytes that it gives, and how often it has failed
+-- what contracts know of a device: the bytes that it returns, and how often it has failed
 pub record Seen : Type 0 where
   pub image : List ℕ
   pub failed : ℕ
 
--- a kernel, as its calls see it: the blocks in its region, and its VM file over what is seen of
--- the device
+-- a kernel as its calls see it: the blocks in its region, and its VM file on the known part of the device
 pub record KernelState : Type 0 where
   pub blocks : store.Store
   pub vm : VmState Seen
 
--- a kernel on a device: what its calls see, which knows no device, and the device
+-- a kernel on a device: the part that its calls see, which does not depend on the type of the device, and the device
 pub record KernelOn (D : Type 0) : Type 0 where
   pub core : KernelState
   pub device : D
 
--- what is seen of a device
+-- the known part of a device
 abbrev pub seen : {D : Type 0} → Medium D → D → Seen
 seen medium d = record { image = medium.image d; failed = medium.failed d }
 
--- a file over another state of a device, or over what is seen of it
+-- the same file on another state of a device, or on its known part
 abbrev pub file_over : {D E : Type 0} → E → FileState D → FileState E
 file_over device f = record {
   device = device;
@@ -45,7 +44,7 @@ file_over device f = record {
   saved = f.saved;
 }
 
--- VM blocks over another state of a device, or over what is seen of it
+-- the same VM blocks on another state of a device, or on its known part
 abbrev pub vm_over : {D E : Type 0} → E → VmState D → VmState E
 vm_over device v = record { file = file_over device v.file; entries = v.entries; map_block = v.map_block; map_item = v.map_item }
 
@@ -57,7 +56,7 @@ core_of medium v s = record { blocks = s; vm = vm_over (seen medium v.file.devic
 abbrev pub kernel_of : {D : Type 0} → Medium D → VmState D → store.Store → KernelOn D
 kernel_of medium v s = record { core = core_of medium v s; device = v.file.device }
 
--- the bytes that are seen
+-- the known bytes
 abbrev pub image_seen : Seen → List ℕ
 image_seen d = d.image
 
@@ -65,17 +64,16 @@ image_seen d = d.image
 abbrev pub failed_in : KernelState → ℕ
 failed_in s = s.vm.file.device.failed
 
--- what a kernel sees of how often its device has failed is what the device says
+-- the kernel's count of failures is the device's
 abbrev pub SeesDevice : {D : Type 0} → Medium D → KernelOn D → Type 0
 SeesDevice medium k = failed_in k.core ≡ medium.failed k.device
 
--- what all blocks of global memory spell, beside the VM file that the model knows
+-- what all blocks of global memory represent, with the VM file that the model knows
 abbrev pub memory_of : KernelState → VmFile → model.Memory
-memory_of s f = record { blocks = map block_in (take 1024 s.blocks.blocks); file = f; region = s.blocks.len.most }
+memory_of s f = record { blocks = map block_in (take 1024 s.blocks.blocks); file = f; region = s.blocks.len.most; handles = s.blocks.len.handles }
 
--- what the VM file that the model knows has to do with a kernel, where `good` says that its
--- device is honest: it lists what the kernel lists, and has what is in memory; and, of an honest
--- device, what the device gives
+-- how the VM file that the model knows is tied to a kernel: it lists what the kernel lists, and has the blocks that
+-- are in memory; and if the device is honest (`good`), it has what the device returns
 abbrev pub IsFileOf : Type 0 → KernelState → VmFile → Type 0
 IsFileOf good s f = vm.IsFileOf image_seen (λ d. good) s.vm s.blocks f
 
@@ -87,6 +85,6 @@ IsLocked s name = 0 < store.locks_of s.blocks (slot_of name)
 abbrev pub IsMarked : KernelState → ℕ → Type 0
 IsMarked s h = is_marked_in (held_at s.vm h) ≡ true
 
--- the bytes of a named block may be changed: where it is one of the VM file, it is marked
+-- the bytes of a named block may be changed: a block of the VM file must be marked
 abbrev pub MayChange : KernelState → Name → Type 0
 MayChange s name = name.owner ≡ Vm → IsMarked s name.h

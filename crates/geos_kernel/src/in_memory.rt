@@ -24,7 +24,7 @@ pub fn kernel_in_memory(alloc: Global, region: u32) -> Result<Kernel<MemoryDevic
     ensures store { IfOk result (λ kernel. IsEmpty kernel.core.blocks region) }
     ensures tied { IfOk result (λ kernel. IsFileOf (IsHonest kernel.device) kernel.core (empty_file 65536)) }
     ensures memory { IfOk result
-        (λ kernel. (f : VmFile) → memory_of kernel.core f ≡ record { blocks = replicate 1024 None; file = f; region = region }) }
+        (λ kernel. (f : VmFile) → memory_of kernel.core f ≡ record { blocks = replicate 1024 None; file = f; region = region; handles = 1024 }) }
     ensures honest { IfOk result (λ kernel. IsHonest kernel.device) }
     ensures failures { IfOk result (λ kernel. failed_in kernel.core ≡ 0) }
     // Its device has room for the file, and fails at no call within its length: so it fails at none

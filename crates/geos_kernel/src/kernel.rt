@@ -50,7 +50,7 @@ impl<D: Device + Drop> Kernel<D> {
     ghost use Rattle.std.specs.Prelude.{ℕ, None, replicate};
     ghost use Rattle.block_handles.specs.Layout.{IsEmpty, IsLaidOut};
     ghost use Rattle.block_handles.specs.Stretch.{all_sizes, vm_locks};
-    ghost use Rattle.block_handles.specs.Store.{bytes_of, most_of};
+    ghost use Rattle.block_handles.specs.Store.{bytes_of, handles_of, most_of};
     ghost use Rattle.block_handles.specs.Store as store;
     ghost use Rattle.geos_calls.specs.Calls as table;
     ghost use Rattle.geos_calls.specs.ChunkCalls.{change_edit, change_row, make_edit, make_row, ask_row, refer_row, least, may_grow};
@@ -65,7 +65,7 @@ impl<D: Device + Drop> Kernel<D> {
     ghost use Rattle.vm_blocks.specs.View.{held_at};
     ghost use Rattle.vm_file.specs.Outcomes.{IsHeapUnder};
     ghost use Rattle.geos_kernel.specs.Files.{LeavesKept};
-    ghost use Rattle.geos_kernel.specs.Limits.{with_room};
+    ghost use Rattle.geos_kernel.specs.Limits.{with_last_handle, with_room};
     ghost use Rattle.geos_kernel.specs.Kernel.{Calls, GivesSpan, HasNoRoomFor, LeavesVm, NewHasNoRoom, Remain, StaysIfRefused};
     ghost use Rattle.geos_kernel.specs.Spans.{IsStanding, IsWritable};
     ghost use Rattle.geos_kernel.specs.View.{chunks_at, file_over, IsFileOf, IsLocked, MayChange, memory_of, SeesDevice};
@@ -85,7 +85,7 @@ impl<D: Device + Drop> Kernel<D> {
         // The model begins with the file as the device holds it.
         ensures tied { IfOk result (λ kernel. IsFileOf (D.medium.honest kernel.device) kernel.core (opened_file D.medium.image file)) }
         ensures memory { IfOk result (λ kernel. (f : model_file.VmFile)
-            → memory_of kernel.core f ≡ record { blocks = replicate 1024 None; file = f; region = region }) }
+            → memory_of kernel.core f ≡ record { blocks = replicate 1024 None; file = f; region = region; handles = 1024 }) }
         ensures back { IfErr result (λ e. e.0 ≡ file) }
     {
         let blocks = match Blocks::new(alloc, region) {
@@ -132,8 +132,9 @@ impl<D: Device + Drop> Kernel<D> {
         self.blocks.taken()
     }
 
-    /// Lets all blocks in memory together have `more` bytes more than they have, at most the whole region, until the next call. So a
-    /// large number takes the limit away. What would be more is refused as want of room is, after all blocks were discarded that may be.
+    /// Lets all blocks in memory together have `more` bytes more than they have, at most the whole region, until the
+    /// next call of `limit`. So a large number removes the limit. A call that needs more evicts all idle blocks, and
+    /// is then refused as for lack of room.
     pub fn limit(&mut self, more: u32)
         ensures limited { self.new.core ≡ with_room self.old.core more }
         ensures device { self.new.device ≡ self.old.device }
@@ -142,6 +143,25 @@ impl<D: Device + Drop> Kernel<D> {
             → IsFileOf (D.medium.honest self.new.device) self.new.core f }
     {
         self.blocks.limit(more);
+    }
+
+    /// The highest handle that a new block of global memory may get: 1,024, unless `limit_handles` has set another one.
+    pub fn handles(&self) -> u16
+        ensures { result ≡ handles_of self.now.core.blocks }
+    {
+        self.blocks.handles()
+    }
+
+    /// Sets the highest handle that a new block of global memory may get, until the next call. A routine that requests one more block is
+    /// refused as if all handles were in use.
+    pub fn limit_handles(&mut self, handles: u16)
+        ensures limited { self.new.core ≡ with_last_handle self.old.core handles }
+        ensures device { self.new.device ≡ self.old.device }
+        // The model has the limit too, and knows what it knew.
+        ensures file { (f : model_file.VmFile) → IsFileOf (D.medium.honest self.old.device) self.old.core f
+            → IsFileOf (D.medium.honest self.new.device) self.new.core f }
+    {
+        self.blocks.limit_handles(handles);
     }
 
     /// Whether a block of the VM file is marked as changed; `false` if there is none.
@@ -185,17 +205,21 @@ impl<D: Device + Drop> Kernel<D> {
     }
 
     /// Makes a block of 64 bytes with no chunk, under the lowest handle that is free, and
-    /// locks it. `NoHandle` if all 1,024 are in use, `NoRoom` if no stretch of the
+    /// locks it. `NoHandle` if all 1,024 are in use, or all up to the limit; `NoRoom` if no stretch of the
     /// region has room for it, though no block is left that could be discarded.
     pub fn mnew(&mut self) -> Result<u16, Refusal>
         ensures calls { Calls (D.medium.honest self.old.device) table.mnew result self.old.core self.new.core }
         ensures no_room { result ≡ Err Refusal.NoRoom → NewHasNoRoom self.old.core self.new.core }
         ensures locked { IfOk result (λ h. store.locks_of self.new.core.blocks (slot_of (mem h)) ≡ 1) }
+        ensures no_handle { result ≡ Err Refusal.NoHandle → self.new.core ≡ self.old.core }
         ensures vm { LeavesVm self.old self.new }
     {
         let Some(h) = self.blocks.lowest(Owner::Mem) else {
             return Err(Refusal::NoHandle);
         };
+        if h > self.blocks.handles() {
+            return Err(Refusal::NoHandle);
+        }
         match make_heap(&self.vm, &mut self.blocks, Name::mem(h)) {
             Ok(()) => Ok(h),
             Err(NoRoom) => Err(Refusal::NoRoom),

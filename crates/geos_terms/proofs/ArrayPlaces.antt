@@ -1,4 +1,4 @@
--- Where the elements of an array stand.
+-- The places of the elements of an array.
 use Rattle.std.proofs.Common.{◌≡◌, ℕ, ◌+◌, ◌<◌, ◌≤◌, List, [], ◌∷◌, ◌++◌, Some, length, take, drop, get_or, ap, sym, refl, ◌∙◌, arith, length-append, length-drop}
 use Rattle.std.proofs.lemmas.List.{take-append-drop, drop-drop, drop_more, take_at, take_more, take-take}
 use Rattle.lmem_raw.specs.Bytes.{part}
@@ -9,7 +9,7 @@ use Rattle.geos_terms.proofs.Joined.{join, length-word_bytes, join-append, drop-
 use Rattle.geos_terms.proofs.ArraySpells.{element-at, length-head}
 use Rattle.geos_terms.proofs.ArrayReads.{Reads}
 
--- bytes spell one array
+-- bytes encode at most one array
 pub same-array : (bytes : List ℕ) (a b : Array) → arr bytes ≡ Some a → arr bytes ≡ Some b → a ≡ b
 same-array bytes a b x y = let e : Some a ≡ Some b = sym x ∙ y in cc
 
@@ -29,7 +29,7 @@ join-more xs i h =
 first-least : (a : Array) → 8 ≤ first_at a
 first-least a = omega (arith, length-head a)
 
--- elements lie behind the header, and in the bytes
+-- elements lie after the header, and within the bytes
 pub element-bounds : (bytes : List ℕ) (a : Array) (i : ℕ) → Reads bytes a → (8 ≤ element_at a i) × (element_at a i ≤ length bytes)
 element-bounds bytes a i r =
     let e = element-at a i in
@@ -42,7 +42,7 @@ element-bounds bytes a i r =
 pub element-ends : (a : Array) (i : ℕ) → i < length a.elements → element_at a (i + 1) ≡ element_at a i + length (element a i)
 element-ends a i h = omega (arith, join-more a.elements i h, element-at a i, element-at a (i + 1))
 
--- the bytes from an element on are those of it and of the ones behind it
+-- the bytes from an element on are those of the element and of all later ones
 pub drop-elements : (bytes : List ℕ) (a : Array) (i : ℕ) → Reads bytes a → drop (element_at a i) bytes ≡ join (drop i a.elements)
 drop-elements bytes a i r =
     let n = length (join (take i a.elements)) in
@@ -67,7 +67,7 @@ length-spelled a = omega (
       (join a.elements),
 )
 
--- elements stand in their order
+-- elements lie in their order
 pub element-order : (a : Array) (i j : ℕ) → i ≤ j → element_at a i ≤ element_at a j
 element-order a i j h =
     let same = ap (λ xs. length (join xs)) (take-take i j a.elements h) in

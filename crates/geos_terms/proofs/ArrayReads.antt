@@ -1,4 +1,4 @@
--- The array that bytes spell.
+-- The array that bytes encode.
 use Rattle.std.proofs.Common.{◌≡◌, ◌≢◌, ℕ, zero, suc, ◌+◌, ◌-◌, ◌*◌, ◌<◌, ◌≤◌, true, false, List, [], ◌∷◌, ◌++◌, Some, None, length, take, drop, get_or, refl, ap, sym, ◌∙◌, subst, inl, inr, arith, length-append, length-take, length-drop}
 use Rattle.std.specs.Prelude.{nat_le, ◌==◌, ◌&&◌, if◌then◌else◌}
 use Rattle.std.proofs.lemmas.Bool.{cases_eq, cases_Bool, and_parts, and_from, and_left, eq-eqb, ne_eqb, eqb-true, le-leb, leb-true}
@@ -19,7 +19,7 @@ get_or-words_from bytes at (suc n) zero h = let e : at ≡ at + 2 * 0 = omega ar
 get_or-words_from bytes at (suc n) (suc j) h = let e : at + 2 + 2 * j ≡ at + 2 * suc j = omega arith in
     get_or-words_from bytes (at + 2) n j (omega arith) ∙ ap (word bytes) e
 
--- parts that begin at offsets which never fall fill what is behind the first
+-- if the offsets never fall, the parts fill the bytes from the first offset on
 record Fills (bytes : List ℕ) (at : ℕ) (rest : List ℕ) : Type 0 where
   within : at ≤ length bytes
   count : length (parts_at bytes at rest) ≡ suc (length rest)
@@ -95,7 +95,7 @@ divides k (suc n) bytes h =
         let w : suc n * k ≡ k + n * k = omega arith in
         omega (arith, e, b, m, w, length-take k bytes, h)
 
--- the array that bytes spell, by its parts
+-- the array that bytes encode, by its parts
 pub record Reads (bytes : List ℕ) (a : Array) : Type 0 where
   pub spells : Spells bytes a
   pub equal : a.element_size ≢ 0 → (i : ℕ) → i ≤ length a.elements → element_at a i ≡ 8 + i * a.element_size

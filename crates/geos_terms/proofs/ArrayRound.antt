@@ -1,4 +1,4 @@
--- Reading the bytes that an array spells gives the array back.
+-- Reading the encoding of an array returns the array.
 use Rattle.std.proofs.Common.{◌≡◌, ◌≢◌, ℕ, suc, ◌+◌, ◌-◌, ◌*◌, ◌<◌, ◌≤◌, true, List, [], ◌∷◌, ◌++◌, Some, length, take, drop, get_or, refl, ap, sym, ◌∙◌, inl, inr, arith, length-append, length-drop}
 use Rattle.std.specs.Prelude.{nat_le, ◌==◌, flat_map, All}
 use Rattle.std.proofs.lemmas.Bool.{cases_eq, and_from, eq-eqb, ne_eqb, le-leb}
@@ -111,6 +111,6 @@ array-spelled a equal =
           ∙ ap (λ x. Some (record { element_size = k; elements = x })) elements)
     ]
 
--- and the bytes of an array are those that it spells
+-- the bytes of an array are its encoding
 pub spelled-array : (bytes : List ℕ) (a : Array) → ((k : ℕ) → get_or bytes k 0 < 256) → arr bytes ≡ Some a → spelled a ≡ bytes
 spelled-array bytes a small is = sym (spells bytes a (reads bytes a small is).spells)

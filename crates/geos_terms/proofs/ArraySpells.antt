@@ -1,4 +1,4 @@
--- Bytes that spell an array, part by part.
+-- Bytes that encode an array, part by part.
 use Rattle.std.proofs.Common.{◌≡◌, ◌≢◌, ℕ, zero, suc, ◌+◌, ◌*◌, ◌<◌, ◌≤◌, List, [], ◌∷◌, ◌++◌, length, take, drop, get_or, refl, ap, sym, ◌∙◌, inl, inr, arith, length-append}
 use Rattle.std.specs.Prelude.{flat_map}
 use Rattle.std.proofs.lemmas.Bool.{cases_eq, eq-eqb, ne_eqb}
@@ -73,7 +73,7 @@ offset-at a i h = elim (cases_eq a.element_size 0) [
   | inr ne ↦ absurd (let l = ap length (table-fixed a ne) in omega (arith, l))
 ]
 
--- such bytes are those that the array spells
+-- such bytes are the encoding of the array
 pub spells : (bytes : List ℕ) (a : Array) → Spells bytes a → bytes ≡ spelled a
 unfolding spelled
 spells bytes a s =

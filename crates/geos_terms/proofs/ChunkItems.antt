@@ -35,7 +35,7 @@ pub chunk-written : (cs : List (Option (List ℕ))) (c : ℕ) (old bytes : List 
     → chunk_of (with_bytes cs c bytes) c ≡ Some bytes
 chunk-written cs c old bytes h = let k = chunk-known cs c old h in rw k.test (get_or-set_same cs (entry_of c) (Some bytes) None k.within)
 
--- and what is written there again stays alone
+-- a second write replaces the first
 pub written-twice : (cs : List (Option (List ℕ))) (c : ℕ) (x y : List ℕ) → with_bytes (with_bytes cs c x) c y ≡ with_bytes cs c y
 written-twice cs c x y = set-twice cs (entry_of c) (Some x) (Some y)
 

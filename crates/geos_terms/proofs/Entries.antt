@@ -46,7 +46,7 @@ chunk-past b c h = let at : get_or (chunks b) ((c - 16) / 2) None ≡ None = chu
 pub told : (b : List ℕ) (i : ℕ) → IsHeap b → i < entries b → IsOffset (entry b i) → LiesWithin b (entry b i) (table_end b) (length b)
 told b i heap h t = lies b (table_end b) (word b 12) heap.1.0 (length b) 0 i heap.1.1.tiles (heap.1.1.all i h t)
 
--- the chunk behind an entry
+-- the chunk at the offset in an entry
 pub chunk-told : (b : List ℕ) (e : ℕ) → IsOffset e → chunk_at b e ≡ Some (part b e (word b (e - 2) - 2))
 chunk-told b e t = grind (arith, nat_tests, t.0, t.1)
 
@@ -74,7 +74,7 @@ picks-place b c x y low even known e = grind (arith, nat_tests)
 pub place-in : (b : List ℕ) (c i : ℕ) → c ≡ handle_of i → i < entries b → place_of b c ≡ place_at b (entry b i)
 place-in b c i is known = picks-place b c _ _ (omega arith) (omega arith) (omega arith) (ap (λ x. place_at b (word b x)) is)
 
--- an entry that is an offset lies in the block, behind the table, and its chunk too
+-- an entry that is an offset lies in the block, after the table, and so does its chunk
 pub told-within : (b : List ℕ) (i : ℕ) → IsHeap b → i < entries b → IsOffset (entry b i) → (18 ≤ entry b i)
     × (2 ≤ word b (entry b i - 2)) × (entry b i + (word b (entry b i - 2) - 2) ≤ length b)
 told-within b i heap h t =

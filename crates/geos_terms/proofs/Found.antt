@@ -1,11 +1,11 @@
--- The piece of an entry, and what stands before it and behind.
+-- The piece of an entry, and the pieces before and after it.
 use Rattle.std.proofs.Common.{◌≡◌, ℕ, ◌+◌, ◌-◌, ◌<◌, ◌≤◌, List, [], ◌∷◌, ◌++◌, refl, ap, sym, ◌∙◌, subst, inl, inr, arith}
 use Rattle.geos_terms.specs.Bytes.{word}
 use Rattle.geos_terms.specs.Chunks.{cost}
 use Rattle.geos_terms.specs.Block.{entry}
 use Rattle.geos_terms.specs.Heap.{Piece, Used, Free, Tiles, HasChunk}
 
--- the piece of an entry, what stands before it and what stands behind
+-- the piece of an entry, the pieces before it and the pieces after it
 pub record Found (b : List ℕ) (at f : ℕ) (ps : List Piece) (end next i : ℕ) : Type 0 where
   pub pre : List Piece
   pub n : ℕ

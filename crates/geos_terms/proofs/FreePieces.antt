@@ -1,4 +1,4 @@
--- Runs of chunks, and the first free chunk behind one.
+-- Runs of chunks, and the first free chunk after a run.
 use Rattle.std.proofs.Common.{◌≡◌, ◌≢◌, ℕ, ◌+◌, ◌<◌, ◌≤◌, List, [], ◌∷◌, ◌++◌, length, refl, ap, sym, subst, arith}
 use Rattle.geos_terms.specs.Bytes.{word}
 use Rattle.geos_terms.specs.Chunks.{cost}
@@ -39,7 +39,7 @@ nothing-left b at f [] end next h st = refl
 nothing-left b at f (Used i n ∷ ps) end next h st = absurd (omega (arith, tiles-le b (at + cost n) f ps end next st.4, cost-four n st.0))
 nothing-left b at f (Free m ∷ ps) end next h st = absurd (omega (arith, tiles-le b (at + m) (word b (at + 2)) ps end next st.5, st.0))
 
--- the first free piece, the chunks before it and what is behind
+-- the first free piece, the chunks before it and the pieces after it
 pub record FirstFree (b : List ℕ) (at f : ℕ) (ps : List Piece) (end : ℕ) : Type 0 where
   pub pre : List Piece
   pub s : ℕ

@@ -18,7 +18,7 @@ join-append xs ys = flat_map-append (λ (e : List ℕ). e) xs ys
 pub join-split : (xs : List (List ℕ)) (i : ℕ) → join xs ≡ join (take i xs) ++ join (drop i xs)
 join-split xs i = ap join (sym (take-append-drop i xs)) ∙ join-append (take i xs) (drop i xs)
 
--- what the first lists take, and what is behind them
+-- the first lists and the rest of a joined list
 pub take-join : (xs : List (List ℕ)) (i n : ℕ) → length (join (take i xs)) ≡ n → take n (join xs) ≡ join (take i xs)
 take-join xs i n e = ap (take n) (join-split xs i) ∙ take_at (join (take i xs)) (join (drop i xs)) n e
 

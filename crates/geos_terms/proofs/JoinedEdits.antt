@@ -54,21 +54,21 @@ join-set_behind (x ∷ xs) (suc i) (suc j) z h fits =
 
 -- Bytes with zeros put in, and without a part
 
--- what is behind an offset, before which stand a list's first bytes
+-- the first bytes of a list, without those before an offset, and what follows them
 pub drop-front : (bs zs : List ℕ) (from at : ℕ) → from ≤ at → at ≤ length bs → drop from (take at bs ++ zs) ≡ part bs from (at - from) ++ zs
 drop-front bs zs from at h fits =
     let whole : from + (at - from) ≡ at = omega arith in
     drop-append-le from (take at bs) zs (omega (arith, length-take at bs)) ∙ ap (λ m. drop from (take m bs) ++ zs) (sym whole)
     ∙ ap (λ xs. xs ++ zs) (drop-take from (at - from) bs)
 
--- what stands before the zeros
+-- the bytes before the zeros
 pub zeros-front : (bs : List ℕ) (from at n : ℕ) → from ≤ at → at ≤ length bs → part (with_zeros bs at n) from (at - from) ≡ part bs from (at - from)
 zeros-front bs from at n h fits =
     let zs : List ℕ = replicate n 0 ++ drop at bs in
     ap (take (at - from)) (drop-front bs zs from at h fits) ∙ take_at (part bs from (at - from)) zs (at - from)
     (length-part bs from (at - from) (omega arith))
 
--- behind the first of them
+-- the bytes after the first m zeros
 pub zeros-behind : (bs : List ℕ) (at m n : ℕ) → at ≤ length bs → drop (at + m) (with_zeros bs at (n + m)) ≡ replicate n 0 ++ drop at bs
 zeros-behind bs at m n fits =
     let zs : List ℕ = replicate (n + m) 0 in
@@ -85,7 +85,7 @@ take-two : (bs : List ℕ) (m n : ℕ) → take (m + n) bs ≡ take m bs ++ part
 take-two bs m n = sym (take-append-drop m (take (m + n) bs)) ∙ ap (λ xs. xs ++ drop m (take (m + n) bs)) (take-take m (m + n) bs (omega arith))
     ∙ ap (λ xs. take m bs ++ xs) (drop-take m n bs)
 
--- a part that gets n bytes grows by zeros behind it, or loses its last ones
+-- a part that gets n bytes gets zeros at its end, or loses its last bytes
 pub resized-grows : (bs : List ℕ) (at has n : ℕ) → at + has ≤ length bs → has ≤ n → with_zeros bs (at + has) (n - has) ≡ with_resized_part bs at has n
 resized-grows bs at has n fits h =
     let p = part bs at has in

@@ -1,4 +1,4 @@
--- Laws of pieces that stand side by side.
+-- Lemmas on pieces that lie side by side.
 use Rattle.std.proofs.Common.{◌≡◌, ℕ, ◌+◌, ◌-◌, ◌<◌, ◌≤◌, ◌⊎◌, List, [], ◌∷◌, ◌++◌, refl, ap, sym, ◌∙◌, subst, inl, inr, arith}
 use Rattle.geos_terms.specs.Block.{entry}
 use Rattle.geos_terms.specs.Bytes.{word}

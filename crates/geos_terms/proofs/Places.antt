@@ -1,4 +1,4 @@
--- Where the chunks of handles stand.
+-- The places of the chunks of handles.
 use Rattle.std.proofs.Common.{◌≡◌, ℕ, ◌-◌, ◌/◌, ◌%◌, ◌<◌, List, Some, None, ap, sym, ◌∙◌, inl, inr, arith, length-take, length-drop, ◌+◌, ◌≤◌, [], length, drop, get_or, unwrap_or}
 use Rattle.std.specs.Option.{option_map}
 use Rattle.std.proofs.lemmas.Bool.{cases_eq, cases_lt}

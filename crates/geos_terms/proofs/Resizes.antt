@@ -25,7 +25,7 @@ zero-at (suc n) (suc k) = zero-at n k
 resized-more : (b : ℕ) (bs : List ℕ) (n : ℕ) → resized (b ∷ bs) (suc n) ≡ b ∷ resized bs n
 resized-more b bs n = let e : suc n - suc (length bs) ≡ n - length bs = omega arith in ap (λ m. b ∷ (take n bs ++ replicate m 0)) e
 
--- the bytes that fit are there, and zeros behind them
+-- the bytes that fit are there, and zeros after them
 pub get_or-resized : (bs : List ℕ) (n k : ℕ) → k < n → get_or (resized bs n) k 0 ≡ get_or bs k 0
 get_or-resized bs zero k h = absurd (omega arith)
 get_or-resized [] (suc n) k h = zero-at (suc n - 0) k

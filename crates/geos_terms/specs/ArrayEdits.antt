@@ -6,7 +6,7 @@ use Rattle.geos_terms.specs.declared.refusal.Refusal.TheVariants.{Short, BadArra
 use Rattle.geos_terms.specs.Edits.{Edit, Part, no_chunk}
 use Rattle.geos_terms.specs.Arrays.{Array, arr, spelled, element_at, element, with_element, without_element, with_element_bytes, empty}
 
--- the array that a chunk spells, an empty one where it spells none
+-- the array that a chunk encodes, or an empty one if it encodes none
 abbrev pub array_of : List (Option (List ℕ)) → ℕ → Array
 array_of chunks c = unwrap_or (arr (bytes_of chunks c)) (empty 0)
 
@@ -18,7 +18,7 @@ count_of chunks c = length (array_of chunks c).elements
 abbrev pub element_of : List (Option (List ℕ)) → ℕ → ℕ → List ℕ
 element_of chunks c i = element (array_of chunks c) i
 
--- there is no such chunk, or it spells no array
+-- there is no such chunk, or it encodes no array
 abbrev pub no_array : List (Option (List ℕ)) → ℕ → List (Bool × Refusal)
 no_array chunks c = no_chunk chunks c ∷ (is_none (arr (bytes_of chunks c)), BadArray) ∷ []
 
@@ -34,7 +34,7 @@ is_past chunks c i = (nat_le (count_of chunks c) i, BadElement)
 abbrev pub no_element : List (Option (List ℕ)) → ℕ → ℕ → List (Bool × Refusal)
 no_element chunks c i = no_array chunks c ++ (is_past chunks c i ∷ [])
 
--- with another array spelled in a chunk
+-- the chunks, with another array encoded in a chunk
 abbrev pub with_array : List (Option (List ℕ)) → ℕ → Array → List (Option (List ℕ))
 with_array chunks c a = with_bytes chunks c (spelled a)
 
@@ -42,7 +42,7 @@ with_array chunks c a = with_bytes chunks c (spelled a)
 abbrev pub create_array : ℕ → List (Option (List ℕ)) → Edit ℕ
 create_array k chunks = record { refusals = []; chunks = with_array (with_new chunks 8) (new_handle chunks) (empty k); answer = new_handle chunks }
 
--- puts an element of zero bytes behind the others
+-- appends an element of zero bytes
 abbrev pub append_element : ℕ → ℕ → List (Option (List ℕ)) → Edit (Unit {0})
 append_element c n chunks = record {
   refusals = no_array chunks c;
@@ -86,7 +86,7 @@ clear_array c chunks = record {
   answer = tt;
 }
 
--- gives an element n bytes: its first ones that fit, and zeros behind them
+-- gives an element n bytes: its first bytes that fit, and zeros after them
 abbrev pub resize_element : ℕ → ℕ → ℕ → List (Option (List ℕ)) → Edit (Unit {0})
 resize_element c i n chunks = record {
   refusals = no_array chunks c ++ (is_fixed chunks c ∷ is_past chunks c i ∷ []);

@@ -1,5 +1,5 @@
--- Arrays in the bytes of a chunk: a header of four words, then elements of one size side by
--- side, or of varying sizes behind a table of the offsets where they begin.
+-- Arrays in the bytes of a chunk: a header of four words, then elements of one size side by side, or a table of
+-- offsets and then elements of varying sizes.
 use Rattle.std.specs.Prelude.{ℕ, zero, suc, ◌+◌, ◌-◌, ◌*◌, Bool, ◌&&◌, nat_le, ◌==◌, if◌then◌else◌, List, [], ◌∷◌, ◌++◌, length, take, drop, sum_by, flat_map, slice_index_or, slice_set, replicate, insert, remove, Option, Some, None}
 use Rattle.lmem_raw.specs.Bytes.{part}
 use Rattle.geos_terms.specs.Bytes.{word, word_bytes}
@@ -9,7 +9,7 @@ pub record Array : Type 0 where
   pub element_size : ℕ
   pub elements : List (List ℕ)
 
--- What bytes spell
+-- What bytes encode
 
 -- the count of elements
 abbrev pub count_word : List ℕ → ℕ
@@ -42,13 +42,13 @@ abbrev pub never_fall : ℕ → List ℕ → ℕ → Bool
 never_fall at [] end = nat_le at end
 never_fall at (next ∷ rest) end = nat_le at next && never_fall next rest end
 
--- such offsets, the first at `first`; where there is none, that is the end
+-- the offsets start at `first` and never fall; without offsets, `first` is the end
 abbrev pub are_offsets : List ℕ → ℕ → ℕ → Bool
 are_offsets [] first end = first == end
 are_offsets (at ∷ rest) first end = (at == first) && never_fall at rest end
 
--- the parts that begin at an offset and at the others behind it: each ends where the next one
--- begins, the last at the end of the bytes
+-- the parts that begin at `at` and at the offsets in the list: each part ends where the next one begins, and the last
+-- at the end of the bytes
 abbrev pub parts_at : List ℕ → ℕ → List ℕ → List (List ℕ)
 parts_at bytes at [] = drop at bytes ∷ []
 parts_at bytes at (next ∷ rest) = part bytes at (next - at) ∷ parts_at bytes next rest
@@ -58,7 +58,7 @@ abbrev pub parts_from : List ℕ → List ℕ → List (List ℕ)
 parts_from bytes [] = []
 parts_from bytes (at ∷ rest) = parts_at bytes at rest
 
--- elements of one size fill the bytes behind the header
+-- elements of one size fill the bytes after the header
 abbrev pub are_equal : List ℕ → Bool
 are_equal bytes = length bytes == 8 + count_word bytes * size_word bytes
 
@@ -75,17 +75,17 @@ abbrev pub elements_in : List ℕ → List (List ℕ)
 elements_in bytes = if size_word bytes == 0 then parts_from bytes (offset_words bytes) else equal_parts (size_word bytes)
     (count_word bytes) (drop 8 bytes)
 
--- the array that bytes spell, or none
+-- the array that bytes encode, or none
 unfoldable pub arr : List ℕ → Option Array
 arr bytes = if is_array bytes then Some (record { element_size = size_word bytes; elements = elements_in bytes }) else None
 
--- Which bytes spell an array
+-- Which bytes encode an array
 
--- where the elements of an array begin: sizes that vary stand behind a table of offsets
+-- the offset of the first element; elements of varying sizes follow the table of offsets
 abbrev pub first_at : Array → ℕ
 first_at a = if a.element_size == 0 then 8 + 2 * length a.elements else 8
 
--- where an element of an array begins, or, at the count, where the last one ends
+-- the offset of an element, or, at the count, the end of the last element
 abbrev pub element_at : Array → ℕ → ℕ
 element_at a i = first_at a + sum_by length (take i a.elements)
 
@@ -106,7 +106,7 @@ table a = if a.element_size == 0 then offsets (first_at a) a.elements else []
 abbrev pub head_words : Array → List ℕ
 head_words a = length a.elements ∷ a.element_size ∷ 0 ∷ 8 ∷ table a
 
--- the bytes that spell an array
+-- the bytes that encode an array
 unfoldable pub spelled : Array → List ℕ
 spelled a = flat_map word_bytes (head_words a) ++ flat_map (λ e. e) a.elements
 
@@ -116,8 +116,7 @@ spelled a = flat_map word_bytes (head_words a) ++ flat_map (λ e. e) a.elements
 abbrev pub empty : ℕ → Array
 empty k = record { element_size = k; elements = [] }
 
--- what a new element takes: the bytes that are asked for where sizes vary, else what each one
--- takes
+-- the length of a new element: n if sizes vary, otherwise the size of all elements
 abbrev pub new_length : Array → ℕ → ℕ
 new_length a n = if a.element_size == 0 then n else a.element_size
 

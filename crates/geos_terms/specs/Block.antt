@@ -1,4 +1,4 @@
--- What the bytes of a block spell.
+-- What the bytes of a block encode.
 use Rattle.std.specs.Prelude.{◌≡◌, ℕ, ◌+◌, ◌-◌, ◌*◌, ◌%◌, ◌==◌, ◌&&◌, nat_lt, nat_le, if◌then◌else◌, List, Option, Some, None, map}
 use Rattle.std.specs.List.{range_with_len}
 use Rattle.std.specs.Option.{option_map}
@@ -30,17 +30,17 @@ entry block i = word block (16 + 2 * i)
 abbrev pub entry_offset : ℕ → ℕ
 entry_offset i = 16 + 2 * i
 
--- where the table ends
+-- the offset of the end of the table
 abbrev pub table_end : List ℕ → ℕ
 table_end block = 16 + 2 * entries block
 
--- where a chunk's bytes stand, and how many there are
+-- the offset of a chunk's bytes, and their number
 pub record Place : Type 0 where
   pub at : ℕ
   pub len : ℕ
 
--- where an entry's chunk stands: 0 is no chunk, 0xFFFF a chunk of no byte, else the entry is
--- the offset of the first byte, behind the size word
+-- the place of an entry's chunk: for 0 there is no chunk, and 0xFFFF is a chunk of no byte. Any other entry is the
+-- offset of the first byte, after the size word.
 abbrev pub place_at : List ℕ → ℕ → Option Place
 place_at block e = if e == 0 then None else (if e == 65535 then Some (record { at = 0; len = 0 }) else Some
     (record { at = e; len = word block (e - 2) - 2 }))
@@ -53,14 +53,14 @@ bytes_at block place = part block place.at place.len
 abbrev pub chunk_at : List ℕ → ℕ → Option (List ℕ)
 chunk_at block e = option_map (bytes_at block) (place_at block e)
 
--- the chunks that a block spells
+-- the chunks that a block encodes
 abbrev pub chunks : List ℕ → List (Option (List ℕ))
 chunks block = map (λ i. chunk_at block (entry block i)) (range_with_len 0 (entries block))
 
--- where the chunk of a handle stands
+-- the place of the chunk with a handle
 abbrev pub place_of : List ℕ → ℕ → Option Place
 place_of block c = if nat_le 16 c && (c % 2 == 0) && nat_lt (entry_of c) (entries block) then place_at block (word block c) else None
 
--- the chunk of a handle stands at this offset, and has so many bytes
+-- the chunk with this handle is at this offset, and has `len` bytes
 abbrev pub IsPlaced : List ℕ → ℕ → ℕ → ℕ → Type 0
 IsPlaced block c at len = place_of block c ≡ Some (record { at = at; len = len })

@@ -28,7 +28,6 @@ abbrev pub AreWords : List ℕ → ℕ → List ℕ → Type 0
 AreWords bytes at [] = Unit {0}
 AreWords bytes at (w ∷ ws) = (word bytes at ≡ w) × AreWords bytes (at + 2) ws
 
--- what stood between two offsets in the old list stands `down` lower and `up` higher in the
--- new one
+-- the old items between `lo` and `hi` are in the new list, `down` lower and `up` higher
 abbrev pub IsShifted : List ℕ → List ℕ → ℕ → ℕ → ℕ → ℕ → Type 0
 IsShifted old new down up lo hi = (j k : ℕ) → j + down ≡ k + up → lo ≤ k → k < hi → slice_index new j ≡ slice_index old k

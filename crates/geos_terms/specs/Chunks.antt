@@ -71,7 +71,7 @@ with_bytes chunks c bytes = slice_set chunks (entry_of c) (Some bytes)
 abbrev pub without : List (Option (List ℕ)) → ℕ → List (Option (List ℕ))
 without chunks c = slice_set chunks (entry_of c) None
 
--- n bytes: the first ones that fit, and zeros behind them
+-- n bytes: the first bytes that fit, and zeros after them
 abbrev pub resized : List ℕ → ℕ → List ℕ
 resized bytes n = take n bytes ++ replicate (n - length bytes) 0
 

@@ -53,7 +53,7 @@ delete_bytes c at n chunks = record {
   answer = tt;
 }
 
--- the length of a chunk is told
+-- returns the length of a chunk
 abbrev pub size : ℕ → List (Option (List ℕ)) → Edit ℕ
 size c chunks = record { refusals = no_chunk chunks c ∷ []; chunks = chunks; answer = length_of chunks c }
 

@@ -4,15 +4,15 @@ use Rattle.geos_terms.specs.Bytes.{word}
 use Rattle.geos_terms.specs.Chunks.{cost}
 use Rattle.geos_terms.specs.Block.{entries, entry, table_end, first_free, total_free}
 
--- what stands behind the table: the chunk of an entry, of so many bytes, or a free chunk, of
--- so many bytes in all
+-- a piece of the space after the table: the chunk of an entry with its number of bytes, or a free chunk with its
+-- total number of bytes
 pub data Piece : Type 0 where
   Used : ℕ → ℕ → Piece
   Free : ℕ → Piece
 
--- these pieces stand side by side from `at` to `end`. The first free one is at `free`, and the
--- last one says that the next one is at `next`. A used one begins with its size word, a free
--- one with its size and the offset of the next one, which does not touch it
+-- these pieces lie side by side from `at` to `end`. The first free piece is at `free`, and the last free one says
+-- that the next is at `next`. A used piece begins with its size word. A free piece begins with its size and the
+-- offset of the next free one, which does not touch it.
 abbrev pub Tiles : List ℕ → ℕ → ℕ → List Piece → ℕ → ℕ → Type 0
 Tiles block at free [] end next = (at ≡ end) × (free ≡ next)
 Tiles block at free (Used i n ∷ rest) end next =
@@ -68,8 +68,8 @@ pub record IsHeader (block : List ℕ) : Type 0 where
   pub some : 2 ≤ entries block
   pub fits : table_end block ≤ length block
 
--- the pieces tile the block behind the table, each chunk of the table is among them, and the
--- header counts the free ones
+-- the pieces tile the space after the table, each chunk of the table is among them, and the header has the total size
+-- of the free pieces
 pub record IsTiledBy (block : List ℕ) (pieces : List Piece) : Type 0 where
   pub tiles : Tiles block (table_end block) (first_free block) pieces (length block) 0
   pub all : (i : ℕ) → i < entries block → IsOffset (entry block i) → HasChunk i pieces

@@ -16,7 +16,7 @@ abbrev pub entry_with : List ℕ → ℕ → ℕ → Option ℕ
 entry_with block e zero = None
 entry_with block e (suc n) = if entry block n == e then Some n else entry_with block e n
 
--- what stands at an offset: the chunk of an entry, or a free chunk where no entry holds it
+-- the piece at an offset: the chunk of an entry, or a free chunk if no entry has this offset
 abbrev pub piece_at : List ℕ → ℕ → Option ℕ → Piece
 piece_at block at (Some i) = Used i (word block at - 2)
 piece_at block at None = Free (word block at)
@@ -26,7 +26,7 @@ abbrev pub piece_size : Piece → ℕ
 piece_size (Used i n) = cost n
 piece_size (Free s) = s
 
--- what stands side by side from an offset on, as far as n pieces
+-- up to n pieces, side by side from an offset on
 abbrev pub pieces_from : ℕ → List ℕ → ℕ → List Piece
 pieces_from zero block at = []
 pieces_from (suc n) block at =

@@ -21,8 +21,7 @@ refusal_number Memory = 13
 refusal_number Range = 14
 refusal_number Reserved = 15
 
--- what stands beside the first test that holds: of refusals in the order in which they are
--- tried, the one that comes
+-- the refusal of the first test in the list that is true, if there is one
 abbrev pub first_refusal : {R : Type 0} → List (Bool × R) → Option R
 first_refusal [] = None
 first_refusal (test ∷ tests) = if test.0 then Some test.1 else first_refusal tests

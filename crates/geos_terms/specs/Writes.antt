@@ -5,15 +5,15 @@ use Rattle.geos_terms.specs.Block.{chunks, handle_word, place_of, bytes_at, Plac
 use Rattle.geos_terms.specs.Chunks.{with_bytes}
 use Rattle.geos_terms.specs.Heap.{IsHeap}
 
--- bytes written at an offset of a chunk's place change the list of that chunk alone
+-- bytes written at an offset of a chunk's place change only the byte list of this chunk
 pub record ChangesChunk (old new : List ℕ) (c : ℕ) (place : Place) (at : ℕ) (ws : List ℕ) : Type 0 where
   pub heap : IsHeap new
   pub chunks : chunks new ≡ with_bytes (chunks old) c (with_part (bytes_at old place) at ws)
   pub places : (d : ℕ) → place_of new d ≡ place_of old d
   pub handle : handle_word new ≡ handle_word old
 
--- bytes that are written within the place of a chunk change the list of that chunk alone:
--- every place stays, and the block still is a heap
+-- bytes that are written within the place of a chunk change only the byte list of this chunk: every place stays, and
+-- the block is still a heap
 abbrev pub WritesStayInTheirChunk : Type 0
 WritesStayInTheirChunk =
     (block : List ℕ) (c : ℕ) (place : Place) (at : ℕ) (ws : List ℕ) →

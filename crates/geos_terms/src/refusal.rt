@@ -23,7 +23,7 @@ pub enum Refusal {
     /// is brought into memory.
     #[error("no room in the region")]
     NoRoom,
-    /// All 1,024 handles are in use.
+    /// All 1,024 handles are in use, or for a block of global memory all up to the limit.
     #[error("no handle is free")]
     NoHandle,
     /// The block would need more than 65,520 bytes; or the directories that a commit is to keep need

@@ -36,7 +36,7 @@ pub(crate) fn answer(
     }
 }
 
-/// Where an element begins, from its chunk's first byte on, and its length.
+/// The offset of an element from its chunk's first byte, and its length.
 fn part(block: &[u8], c: u16, i: u16) -> Result<(u16, u16), ElementError>
     requires { IsHeap block.now }
 {

@@ -1,27 +1,30 @@
-//! A trial of the kernel's calls. It reads lines with calls, makes one call after the other on one kernel, and prints each line again
-//! with what the call answers.
+//! A trial of the kernel's calls. It reads lines with calls, makes one call after
+//! the other on one kernel, and prints each line again with the result of the call.
 //!
-//! `kernel BYTES AREA` makes the kernel anew, with a region of so many bytes and a new VM file whose area has so many, 65,536 where no
-//! number stands there. After the word of a call stand the handle of its block and then what the call takes, in the order of the
-//! function's arguments; `vm_` before the word of a call on chunks or through spans is for a block of the VM file. `load8 H C AT`,
-//! `load16 H C AT`, `store8 H C AT BYTE` and `store16 H C AT WORD` begin with the `deref` of the chunk; with `caelt_` before the word, the
-//! index of an element stands after the chunk. `copy H TO FROM N` copies from chunk to chunk, and `bytes H C` reads all bytes of a chunk.
+//! `kernel BYTES AREA` makes a new kernel, with a region of BYTES bytes and a new VM file with an area of AREA bytes,
+//! each 65,536 if it is missing. After the name of a call come the handle of its block and the arguments, in the order
+//! of the function's parameters; `vm_` before the name of a call on chunks or through spans selects a block of the VM
+//! file. `load8 H C AT`, `load16 H C AT`, `store8 H C AT BYTE` and `store16 H C AT WORD` begin with the `deref` of the
+//! chunk; with `caelt_` before the name, the index of an element follows the chunk. `copy H TO FROM N` copies from
+//! chunk to chunk, and `bytes H C` reads all bytes of a chunk.
 //!
-//! `state` tells what the kernel has: whether it is sure of its file, what is mapped, and each block with its user ID, mark, count of
-//! locks and chunks (`HANDLE:LENGTH`). It locks each block of the file for that, and so brings it into memory. `contents` tells the bytes
-//! of each chunk too.
+//! `state` prints what the kernel has: whether it is sure of its file, what is mapped, and each block with its user ID,
+//! whether it is marked, its lock count and its chunks (`HANDLE:LENGTH`). It locks each block of the file for this, and
+//! so loads it into memory. `contents` also prints the bytes of each chunk.
 //!
-//! `image` begins an image, whose hexadecimal digits are on the lines up to `end`; that is answered whether it may run. `call R WORD ..`
-//! runs its routine R, counted from 0, on at most seven words over the kernel, and tells the words and the output that it leaves. `lend H ..`
-//! gives the handles of blocks that the runs from then on are lent, s0 first; they have to be locked before, by `vlock`.
+//! `image` begins an image, whose hexadecimal digits are on the lines up to `end`; the answer is whether it may run.
+//! `call R WORD ..` runs its routine R, counted from 0, on at most seven words over the kernel, and prints the words
+//! and the output that it leaves. `lend H ..` sets the handles of the blocks that later runs borrow, s0 first; `vlock`
+//! must lock them before.
 //!
-//! `close` lets the kernel go, and its device stays. `open` makes a kernel on what that holds, `kept` tells it, `kept_bytes` with the bytes
-//! of blocks, and `calls` how many calls the device had since it was made or opened. `power_off PART..` makes of it what a stop leaves:
-//! 0 what lasted, 1 what was written or 2 garbage, in each part of 512 bytes. `fail CALL` and `stop CALL` stand before `kernel` or
-//! `open`: of that kernel's device the call of this number fails, or that and each later one.
+//! `close` drops the kernel, and its device stays. `open` makes a kernel on this device, `kept` prints what the device
+//! has, `kept_bytes` also the bytes of blocks, and `calls` how many calls the device had since it was made or opened.
+//! `power_off PART..` changes the device to what a stop leaves: in each part of 512 bytes, 0 the durable bytes, 1 the
+//! written bytes, 2 garbage. `fail CALL` and `stop CALL` come before `kernel` or `open`: the call of this number of
+//! that kernel's device fails, or this call and each later one.
 //!
-//! `times N CALL` makes a call so often and tells how the answers run, and `fill FROM TO N` makes a block and a chunk of `n` bytes for
-//! each of these handles.
+//! `times N CALL` makes a call N times and prints the runs of equal answers, and
+//! `fill FROM TO N` makes a block and a chunk of `n` bytes for each of these handles.
 #![tactic(auto)]
 
 mod block_call;

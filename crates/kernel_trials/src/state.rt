@@ -12,7 +12,7 @@ use std::fmt::Write;
 use trial_lines::Runs;
 use vm_file::Device;
 
-/// What is told of a chunk.
+/// What is printed of a chunk.
 #[derive(Clone, Copy, PartialEq)]
 pub(crate) enum Detail {
     /// Its length.
@@ -44,7 +44,7 @@ pub(crate) fn state<D: Device + Drop>(
     Ok(Answer::Text(telling.text))
 }
 
-/// The text of what a kernel has, as far as it was told.
+/// The text of what a kernel has, as far as it is written.
 #[derive(Drop)]
 struct Telling {
     alloc: Global,

@@ -35,7 +35,7 @@ clear b at f size ps starts m fours four all s k low high h =
     let l = lies b (at + size) f ps (length b) 0 e.0 s (all e.0 e.1 e.2 (omega (arith, e.3))) in
     absurd (omega (arith, l.from, e.3))
 
--- behind a piece in which no chunk starts
+-- if no other chunk starts within a piece, each entry from the piece on has this piece or a chunk after it
 covered : (b : List ℕ) (at size : ℕ) (ps : List Piece) (starts : List Bool) → Marks b (entries b) starts → at % 4 ≡ 0
     → size % 4 ≡ 0 → Clear starts at size →
     ((i : ℕ) → i < entries b → IsOffset (entry b i) → at + size ≤ entry b i → HasChunk i ps) →
@@ -50,7 +50,7 @@ covered b at size ps starts m fours four free all i l t low =
       ]
     ]
 
--- at a marked place stands the chunk of an entry
+-- at a marked offset begins the chunk of an entry
 pub used-forward : (b : List ℕ) (at free sum w : ℕ) (starts : List Bool) → Marks b (entries b) starts → at % 4 ≡ 0 → at < length b → w ≡ word b at →
     get_or starts (at / 4) false ≡ true → CanTile b at free sum →
     (3 ≤ w) × (at + (w + 3) / 4 * 4 ≤ length b) × Clear starts at ((w + 3) / 4 * 4) × CanTile b (at + (w + 3) / 4 * 4) free sum
@@ -119,7 +119,7 @@ used-goes b at free sum w end starts m fours inside is h least ends fits =
       small = omega arith;
     }
 
--- at a place with no mark stands a free chunk, the first one from here on
+-- at an offset without a mark begins a free chunk, the first one from here on
 pub free-forward : (b : List ℕ) (at free sum w next : ℕ) (starts : List Bool) → Marks b (entries b) starts → at % 4 ≡ 0
     → 16 ≤ at → at < length b → w ≡ word b at → next ≡ word b (at + 2) →
     get_or starts (at / 4) false ≡ false → CanTile b at free sum →

@@ -24,8 +24,8 @@ marks_from starts k = count_by (λ x. x) (drop k starts)
 abbrev pub CanGoOn : List ℕ → List Bool → ℕ → ℕ → ℕ → ℕ → Type 0
 CanGoOn block starts at free sum left = CanTile block at free sum × (marks_from starts (at / 4) ≡ left)
 
--- past a piece that ends here, and has so many chunks, the rest can be tiled exactly where it
--- could be before, if no mark lies within the piece
+-- a step over a piece that ends here and has so many chunks: if no mark lies within
+-- the piece, the rest can be tiled after the step exactly if it could be tiled before
 pub record Goes (block : List ℕ) (starts : List Bool) (at free sum end chunks free_then sum_then : ℕ) : Type 0 where
   pub forward : CanTile block at free sum → CanTile block end free_then sum_then × (marks_from starts (at / 4) ≡ chunks + marks_from starts (end / 4))
   pub back : CanTile block end free_then sum_then → marks_from starts (at / 4) ≡ chunks + marks_from starts (end / 4) → CanTile block at free sum

@@ -62,8 +62,8 @@ fn is_full(block: &[u8], starts: &mut [bool]) -> bool
     }
 }
 
-/// Whether pieces tile the block after the table: goes over them from the lowest on. Where it
-/// comes by as many chunks as places are marked, no mark lies within a piece.
+/// Whether pieces tile the block after the table: visits them from the lowest on.
+/// If it visits as many chunks as offsets are marked, no mark lies within a piece.
 fn is_tiled(block: &[u8], starts: &[bool], chunks: usize) -> bool
     requires header { IsHeader block.now }
     requires marks { Marks block.now (entries block.now) starts.now }
@@ -105,8 +105,8 @@ struct Piece {
     sum: usize,
 }
 
-/// The piece at an offset, where the next free chunk is to be at `free` and the ones so far
-/// have `sum` bytes: a chunk where one of an entry begins. None if no piece can be there.
+/// The piece at an offset, if the next free chunk is expected at `free` and the free chunks so far have `sum`
+/// bytes: a chunk if an entry's chunk begins there, otherwise a free chunk. None if no piece can be there.
 fn next_piece(block: &[u8], starts: &[bool], at: usize, free: usize, sum: usize) -> Option<Piece>
     requires header { IsHeader block.now }
     requires marks { Marks block.now (entries block.now) starts.now }

@@ -7,7 +7,7 @@ ghost use Rattle.geos_terms.specs.Block.{entries, entry, entry_offset, table_end
 use crate::words::{get16, put16};
 
 // the offsets of the header's words, after the block's handle
-/// Where the table begins: it says `TABLE`.
+/// The offset of the word that has the table's offset, which is always `TABLE`.
 pub(crate) const TABLE_BEGIN: usize = 2;
 /// 0.
 pub(crate) const FLAGS: usize = 4;
@@ -22,7 +22,7 @@ pub const FIRST_FREE: usize = 12;
 /// The bytes in free chunks.
 pub const TOTAL_FREE: usize = 14;
 
-/// Where the table begins.
+/// The offset at which the table begins.
 pub const TABLE: usize = 16;
 
 /// The entry of a chunk of no byte.
@@ -37,7 +37,7 @@ pub fn entries(block: &[u8]) -> usize
     get16(block, ENTRIES) as usize
 }
 
-/// Where the table ends.
+/// The offset at which the table ends.
 pub fn table_end(block: &[u8]) -> usize
     requires { 16 ≤ length block.now }
     ensures value { result ≡ table_end block.now }

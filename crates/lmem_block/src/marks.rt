@@ -1,4 +1,4 @@
-//! Where the chunks of a table begin.
+//! Marks of the offsets at which the chunks of a table begin.
 ghost use Rattle.std.specs.Prelude.{◌≡◌, ℕ, ◌*◌, ◌≤◌, false, length, MatchOption, slice_index_or};
 ghost use Rattle.geos_terms.specs.Block.{entries};
 ghost use Rattle.geos_terms.specs.Heap.{IsHeader};
@@ -6,10 +6,9 @@ ghost use Rattle.lmem_block.specs.Check.{IsTiled, Marks, marks_from};
 
 use crate::header::{NO_BYTE, entries, entry, table_end};
 
-/// Marks where the chunks of the table begin, each place once; how many there are. There is a
-/// place for each four bytes. None if an entry can't be the offset of a chunk: it lies in the
-/// table, after the block, at a place that no chunk can have, or where another entry's chunk
-/// begins.
+/// Marks the offsets at which the chunks of the table begin, each once, and returns how many there are. There is a mark
+/// for each four bytes. None if an entry can't be the offset of a chunk: it lies in the table, after the block, at an
+/// offset that no chunk can have, or where another entry's chunk begins.
 pub(crate) fn mark(block: &[u8], starts: &mut [bool]) -> Option<usize>
     requires header { IsHeader block.now }
     requires blank { (k : ℕ) → slice_index_or starts.old k false ≡ false }

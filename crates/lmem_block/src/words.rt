@@ -32,7 +32,7 @@ pub(crate) fn put_words(block: &mut [u8], at: usize, words: &[u16])
     }
 }
 
-/// Moves bytes. They are those from before, also where the two ranges overlap.
+/// Moves bytes with their old values, also if the two ranges overlap.
 pub fn move_bytes(block: &mut [u8], from: usize, to: usize, count: usize)
     requires source { from + count ≤ length block.old }
     requires target { to + count ≤ length block.old }

@@ -15,7 +15,7 @@ use Rattle.lmem_heap.specs.Moves.{MovesRun}
 use Rattle.lmem_heap.specs.Gaps.{HasGap, ClosesGap, closing_words}
 use Rattle.lmem_heap.proofs.Movers.{moved-in, moved-low, moved-high}
 
--- an entry of a chunk before the gap, behind it, and behind its end
+-- an entry of a chunk before the gap, between the gap and its end, and after its end
 entry-before : (b c : List ℕ) (gap : Gap) (i : ℕ) → ClosesGap b c gap → i < entries b → entry b i ≤ gap.first + gap.size → entry c i ≡ entry b i
 entry-before b c gap i k h l = k.places i h ∙ moved-low (gap.first + gap.size) gap.end gap.first (entry b i) l
 

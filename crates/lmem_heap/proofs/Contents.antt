@@ -1,4 +1,4 @@
--- Bytes that stay at the front of a chunk, and zeros behind them.
+-- Bytes that stay at the front of a chunk, and zeros after them.
 use Rattle.std.proofs.Common.{◌≡◌, ℕ, ◌+◌, ◌-◌, ◌<◌, ◌≤◌, ◌⊎◌, List, length, get_or, replicate, drop, ap, sym, ◌∙◌, inl, inr, arith}
 use Rattle.std.proofs.lemmas.Bool.{cases_lt}
 use Rattle.std.proofs.lemmas.Grind.{same_number_lists}
@@ -27,7 +27,7 @@ within-zeros d c from m k is fits low high =
     ap (λ x. get_or x k 0) is ∙ get_or-with_part_within d from (replicate m 0) k (k - from) (omega arith) (omega (arith, z)) (omega (arith, z))
     ∙ zero-at m (k - from)
 
--- the bytes of a chunk of which the first ones are kept, as far as it has room, and the others are zeros
+-- the bytes of a resized chunk: its first bytes as far as there is room, then zeros
 pub kept-bytes : (old c : List ℕ) (at keep n : ℕ) → at + n ≤ length c → (n ≤ keep) ⊎ (length old ≤ keep) →
     ((q : ℕ) → q < keep → q < n → get_or c (at + q) 0 ≡ get_or old q 0) → ((q : ℕ) → keep ≤ q → q < n → get_or c (at + q) 0 ≡ 0)
     → part c at n ≡ resized old n

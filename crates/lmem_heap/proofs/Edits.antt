@@ -17,7 +17,7 @@ use Rattle.geos_terms.proofs.FreePieces.{used-any, used-left, used-right, used-b
 use Rattle.lmem_heap.specs.Packed.{IsPacked, EditsChunk, HasResized, chunks_end, chunk_end, chunk_length}
 use Rattle.lmem_heap.proofs.Movers.{moved-in, moved-low, moved-high}
 
--- the chunk of an entry in a packed heap, and the chunks before it and behind
+-- the chunk of an entry in a packed heap, with the chunks before it and after it
 pub record Split (b : List ℕ) (i : ℕ) : Type 0 where
   pub pre : List Piece
   pub post : List Piece

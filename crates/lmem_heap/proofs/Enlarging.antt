@@ -1,4 +1,4 @@
--- A heap with more bytes behind it.
+-- A heap with more bytes after its end.
 use Rattle.std.proofs.Common.{◌≡◌, ℕ, ◌+◌, ◌*◌, ◌%◌, ◌<◌, ◌≤◌, ◌⊎◌, List, [], length, take, get_or, refl, ap, sym, ◌∙◌, subst, inl, inr, arith, length-take}
 use Rattle.std.proofs.lemmas.List.{get_or-take}
 use Rattle.geos_terms.specs.Bytes.{word, with_word, IsShifted}
@@ -32,7 +32,7 @@ longer b c old fits most low made =
       kept = (λ j k q g r. let s : j ≡ k = omega arith in ap (λ x. get_or c x 0) s ∙ byte k r (inr (omega arith)));
     }
 
--- the new bytes are a hole behind all pieces
+-- the new bytes are a hole after all pieces
 pub record Enlarged (b e c : List ℕ) (old : ℕ) : Type 0 where
   pub is : IsOpen c 12 old (length b)
   pub chunks : chunks c ≡ chunks e

@@ -9,7 +9,7 @@ use Rattle.geos_terms.proofs.Entries.{told}
 use Rattle.lmem_heap.specs.Packed.{chunk_end, chunk_length}
 use Rattle.lmem_heap.specs.Extents.{HasExtent, IsExtent}
 
--- a chunk that lies behind the table, and in the block
+-- a chunk that lies after the table, and in the block
 pub lies-there : (b : List ℕ) (i : ℕ) → i < entries b → 0 < chunk_length b i → table_end b + 2 ≤ entry b i
     → chunk_end b i ≤ length b → length b ≤ 65520 → HasExtent b i
 lies-there b i h some low high most =

@@ -100,8 +100,8 @@ left-hole b c i heap h t is =
       bytes = far (table_end b) (length b) (omega arith);
     }
 
--- an entry has got a chunk at an offset; what stands before it and from another offset on is as it
--- was, but for the entry
+-- an entry has a new chunk at an offset; the bytes before it,
+-- and from another offset on, are unchanged except for the entry
 pub record HasPut (b c : List ℕ) (i at to : ℕ) (bytes : List ℕ) : Type 0 where
   pub head : SameHead b c 12
   pub count : entries c ≡ entries b

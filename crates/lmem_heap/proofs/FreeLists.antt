@@ -266,7 +266,7 @@ free-below b at f (Used i n ∷ ps) end next s z ne = free-below b (at + cost n)
 free-below b at f (Free m ∷ ps) end next s z ne =
     omega (arith, tiles-le b (at + m) (word b (at + 2)) ps end next s.5, s.2, s.0)
 
--- the next free chunk of a heap, behind an empty hole
+-- the next free chunk of a heap, after an empty hole
 pub open-fits : (b : List ℕ) (link : ℕ) → IsOpen b link (length b) (length b) → word b link ≢ 0 → (size : ℕ)
     → size ≤ word b (word b link) → FitsBehind b link (word b link) (word b link) size
 open-fits b link o ne size fits =

@@ -1,4 +1,4 @@
--- Free chunks that are taken, and bytes that are given back.
+-- Free chunks that are taken, and bytes that are released.
 use Rattle.std.proofs.Common.{◌≡◌, ◌≢◌, ℕ, ◌+◌, ◌-◌, ◌*◌, ◌%◌, ◌<◌, ◌≤◌, ◌⊎◌, List, [], ◌∷◌, ◌++◌, length, get_or, refl, ap, sym, ◌∙◌, subst, inl, inr, arith}
 use Rattle.geos_terms.specs.Bytes.{word, IsShifted}
 use Rattle.geos_terms.specs.Block.{entry, entries, table_end, first_free, total_free}
@@ -30,14 +30,14 @@ back-entries b c link at end i ps o keep n to h t =
     let u : IsOffset (entry b i) = ((λ z. t.0 (d ∙ z)), (λ z. t.1 (d ∙ z))) in
     elim (o.all i l u) [ inl x ↦ inl x | inr x ↦ elim x [ inl y ↦ inr (inl y) | inr y ↦ inr (inr (to y)) ] ]
 
--- the chunks behind the free chunk behind a hole
+-- the chunks after the free chunk that follows a hole
 free-lies : (b : List ℕ) (link at end j : ℕ) → (s : IsBeside b link at end) → (f : FreeBehind b link at end s.is)
     → HasChunk j s.is.behind → LiesWithin b (entry b j) (end + f.size) (length b)
 free-lies b link at end j s f h =
     let x : HasChunk j f.rest = subst (λ (ps : List Piece). HasChunk j ps) f.is h in
     lies b (end + f.size) (word b (end + 2)) f.rest (length b) 0 j f.here.5 x
 
--- the whole free chunk behind a hole
+-- the whole free chunk after a hole
 pub took-whole : (b c : List ℕ) (link at end : ℕ) → IsBeside b link at end → word b link ≡ end → length c ≡ length b
     → KeepsFront b c link end → KeepsBack b c end →
     word c link ≡ word b (end + 2) → total_free c + word b end ≡ total_free b → Widens b c link at end (end + word b end)

@@ -19,7 +19,7 @@ use Rattle.lmem_heap.proofs.Movers.{moved-low}
 use Rattle.lmem_heap.proofs.Edits.{split}
 use Rattle.lmem_heap.proofs.PackedHeaps.{bounds}
 
--- two blocks are the same but for an entry and the chunk that it tells of, up to an offset
+-- two blocks are equal except for an entry and its chunk, up to an offset
 abbrev pub SameBut : List ℕ → List ℕ → ℕ → ℕ → ℕ → Type 0
 SameBut old new i from to = (k : ℕ) → (k < 16 + 2 * i) ⊎ (18 + 2 * i ≤ k) → (k < from) ⊎ (to ≤ k) → get_or new k 0 ≡ get_or old k 0
 
@@ -47,7 +47,7 @@ edit-made b d d1 c i to h low ahead wide high m long same t =
       ends = t.ends;
     }
 
--- a chunk gets its size word and zeros behind its old bytes
+-- a chunk gets its size word, and zeros after its old bytes
 pub resize-made : (b d d2 c : List ℕ) (i begin n : ℕ) → i < entries b → table_end b ≤ begin → entry b i ≡ begin + 2
     → 0 < n → 0 < chunk_length b i → begin + cost (chunk_length b i) ≡ chunk_end b i → chunk_end b i ≤ chunks_end b →
     chunks_end b ≤ length b → begin + cost n + (chunks_end b - chunk_end b i) ≤ length b → length b ≤ 65520 →
@@ -134,7 +134,7 @@ grow-made b d d1 d2 d3 c n end at n_is end_is at_is low fits most m e1 e2 e3 t =
       ends = (subst (λ (x : ℕ). EndsFree c (x + 4)) at_is t.ends);
     }
 
--- where the chunk of a packed heap gets n bytes, and the chunks behind it go
+-- bounds for the chunk of a packed heap that gets n bytes, and for the chunks after it
 pub record InPlace (b : List ℕ) (n : ℕ) (x : Extent) : Type 0 where
   pub low : 16 ≤ x.begin
   pub ends : x.end ≤ chunks_end b

@@ -98,7 +98,7 @@ run-moved b c d from end to low low' ordered fits fits' is m =
       behind = (λ k g l. m.behind k (omega (arith, count)) ∙ byte k ∙ get_or-with_part_behind b to ws k (omega (arith, n)));
     }
 
--- the table stays in the block where bytes behind it moved
+-- the table stays in the block if bytes after it moved
 pub run-table : (b c : List ℕ) (from end to : ℕ) → table_end b ≤ from → table_end b ≤ to → from ≤ end → end ≤ length b
     → c ≡ with_part b to (part b from (end - from)) → table_end c ≤ length c
 run-table b c from end to low low' ordered fits is =

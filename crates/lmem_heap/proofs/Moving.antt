@@ -23,7 +23,7 @@ use Rattle.lmem_heap.proofs.Filling.{has-put}
 use Rattle.lmem_heap.proofs.FreeLists.{link-tiles, link-place, open-place, tiles-fours}
 use Rattle.lmem_heap.proofs.Relinking.{Apart, KeepsBack, other, clear, put, long, kept-chunk}
 
--- the chunk of an entry stands before the hole or behind it
+-- the chunk of an entry lies before the hole or after it
 pub data Side (b : List ℕ) (link at end i : ℕ) (o : IsOpen b link at end) : Type 0 where
   Before : Found b (table_end b) (first_free b) (o.before ++ o.ahead) at o.next i → Side b link at end i o
   Behind : Found b end o.next o.behind (length b) 0 i → Side b link at end i o

@@ -1,4 +1,4 @@
--- The first gap of a heap, and what is behind it.
+-- The first gap of a heap, and the chunks after it.
 use Rattle.std.proofs.Common.{◌++◌, ◌≡◌, ◌≢◌, ℕ, ◌+◌, ◌<◌, ◌≤◌, List, [], ◌∷◌, length, refl, ap, sym, ◌∙◌, subst, inl, inr, arith}
 use Rattle.geos_terms.specs.Bytes.{word}
 use Rattle.geos_terms.specs.Block.{table_end, first_free}
@@ -11,8 +11,7 @@ use Rattle.lmem_heap.specs.Gaps.{HasGap}
 abbrev pub gap_of : ℕ → ℕ → ℕ → ℕ → ℕ → Gap
 gap_of first size end more after = record { first = first; size = size; end = end; more = more; after = after }
 
--- the first free chunk of a heap that is not compact: it lies behind the table, and does not
--- end the block
+-- the first free chunk of a heap that is not compact: it lies after the table, and does not end the block
 pub record OpensAt (b : List ℕ) (f : ℕ) : Type 0 where
   pub some : f ≢ 0
   pub four : 4 ≤ word b f
@@ -25,7 +24,7 @@ first-gap b f heap open_still is =
     let r = first-room b f heap is some in
     record { some = some; four = r.1; within = r.2; inner = (λ e. open_still (inr (ap (λ x. x + word b x) (sym is) ∙ e))) }
 
--- where no free chunk is behind it
+-- the gap if no free chunk follows it
 pub gap-last : (b : List ℕ) (f g : ℕ) → IsHeap b → f ≡ first_free b → f ≢ 0 → g ≡ word b (f + 2) → g ≡ 0
     → HasGap b (gap_of f (word b f) (length b) 0 0)
 gap-last b f g heap is ne next none =

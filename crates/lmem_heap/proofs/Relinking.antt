@@ -34,7 +34,7 @@ put b d at v is small fits = ap (λ x. word x at) is ∙ word-same b at v small 
 pub long : (b d : List ℕ) (at v : ℕ) → d ≡ with_word b at v → length d ≡ length b
 long b d at v is = ap length is ∙ length-with_word b at v
 
--- what stands before a hole is as it was, but for the link
+-- the bytes before a hole are unchanged, except for the link
 pub record Relinks (b c : List ℕ) (link at upto : ℕ) : Type 0 where
   pub long : length c ≡ length b
   pub head : SameHead b c 12
@@ -101,7 +101,7 @@ reopened b c link at end end' behind s r tiles order all total =
       used = s.used;
     }
 
--- the bytes before a hole are as they were, but for the link and the total
+-- the bytes before a hole are unchanged, except for the link and the total
 abbrev pub KeepsFront : List ℕ → List ℕ → ℕ → ℕ → Type 0
 KeepsFront b c link at = (k : ℕ) → k < at → Apart k link → Apart k 14 → get_or c k 0 ≡ get_or b k 0
 
@@ -160,7 +160,7 @@ kept-chunk b c link at end lo j o same front mid rear lies_behind h d =
       | inr (inr x) ↦ chunk-stays b c lo (length b) (entry b j) (entry c j) (lies_behind x) rear d (omega arith) (omega (arith, same)) u
     ])
 
--- the free chunk behind a hole
+-- the free chunk after a hole
 pub record FreeBehind (b : List ℕ) (link at end : ℕ) (o : IsOpen b link at end) : Type 0 where
   pub size : ℕ
   pub rest : List Piece

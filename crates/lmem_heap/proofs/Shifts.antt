@@ -30,7 +30,7 @@ moved-within b d i p from to m source target heap h is fits room_from room_to so
     writes-entry b d i p to ws heap h is (omega arith) (made ∙ ap (λ x. with_part b x (part b source m)) target_is
     ∙ ap (λ x. with_part b (p.at + to) x) same)
 
--- bytes move up, and zeros stand where they began
+-- bytes move up, and zeros replace them where they began
 pub opened : (b d d2 : List ℕ) (i : ℕ) (p : Place) (at n begin m : ℕ) → IsHeap b → i < entries b → place_at b (entry b i) ≡ Some p
     → p.at + p.len ≤ length b → at + n ≤ p.len → begin ≡ p.at + at → m ≡ p.len - (at + n) →
     d ≡ with_part b (begin + n) (part b begin m) → d2 ≡ with_part d begin (replicate n 0) →

@@ -1,4 +1,4 @@
--- Entries of the chunks of runs that moved, one run behind the other.
+-- Entries of the chunks of runs that moved, one run after the other.
 use Rattle.std.proofs.Common.{◌≡◌, ℕ, zero, suc, ◌+◌, ◌-◌, ◌<◌, ◌≤◌, ◌⊎◌, List, [], ◌∷◌, ◌++◌, length, refl, ap, sym, ◌∙◌, inl, inr, arith}
 use Rattle.std.proofs.lemmas.Bool.{cases_lt}
 use Rattle.std.proofs.lemmas.Bool.Decides.{nat_tests}
@@ -31,7 +31,7 @@ pub order-le : (low : ℕ) (ss : List Slide) (high : ℕ) → AreInOrder low ss 
 order-le low [] high o = o
 order-le low (s ∷ ss) high o = omega (arith, o.0, o.1, order-le s.end ss high o.3)
 
--- one more run behind the others
+-- one more run after the others
 pub order-more : (low : ℕ) (ss : List Slide) (high : ℕ) (s : Slide) → AreInOrder low ss high → high ≤ s.from
     → s.from ≤ s.end → s.to ≤ s.from → AreInOrder low (ss ++ (s ∷ [])) s.end
 order-more low [] high s o h e t = (omega (arith, o, h), e, t, omega arith)
@@ -53,7 +53,7 @@ pub order-ends : (low : ℕ) (ss : List Slide) (high k : ℕ) → AreInOrder low
     → AreInOrder (run_at ss 0).from ss (run_at ss k).end
 order-ends low ss high k o n = order-last (run_at ss 0).from ss high k (order-first low ss high o (omega (arith, n))) n
 
--- an entry below all runs, and behind all
+-- an entry below all runs, and one after all runs
 pub slid-below : (low : ℕ) (ss : List Slide) (high e : ℕ) → AreInOrder low ss high → e ≤ low → entry_slid ss e ≡ e
 slid-below low [] high e o h = refl
 slid-below low (s ∷ ss) high e o h = slid-low s ss e (omega (arith, o.0, h)) ∙ slid-below s.end ss high e o.3 (omega (arith, o.0, o.1, h))
@@ -62,7 +62,7 @@ pub slid-behind : (low : ℕ) (ss : List Slide) (high e : ℕ) → AreInOrder lo
 slid-behind low [] high e o h = refl
 slid-behind low (s ∷ ss) high e o h = slid-high s ss e (omega (arith, order-le s.end ss high o.3, h)) ∙ slid-behind s.end ss high e o.3 h
 
--- where one more run moves, behind the others, it moves what the others left
+-- one more run, after the others, moves what the others left
 pub slid-more : (low : ℕ) (ss : List Slide) (high : ℕ) (s : Slide) (e : ℕ) → AreInOrder low ss high → high ≤ s.from
     → entry_slid (ss ++ (s ∷ [])) e ≡ entry_moved s.from s.end s.to (entry_slid ss e)
 slid-more low [] high s e o h = refl
@@ -117,7 +117,7 @@ slid-at low (s ∷ ss) high (suc k) (suc (suc j)) e o n known below next =
     slid-high s ss e (omega (arith, here, place.0)) ∙ slid-at s.end ss high k (suc j) e o.3 (omega (arith, n))
     (omega (arith, known)) (λ z. here) (λ l. next (omega (arith, l)))
 
--- entries of chunks that stood below the runs or behind them
+-- entries of chunks that lay below the runs or after them
 pub entries-apart : (low : ℕ) (ss : List Slide) (high : ℕ) (b : List ℕ) (from end : ℕ) → AreInOrder low ss high
     → ((k : ℕ) → from ≤ k → k < end → (entry b k ≤ low) ⊎ (high ≤ entry b k)) → MapsEntries b b (entry_slid ss) from end
 entries-apart low ss high b from end o apart = entries-kept b (entry_slid ss) from end

@@ -22,7 +22,7 @@ use Rattle.lmem_heap.proofs.Filling.{Filled, filled}
 link-apart : (b : List ℕ) (link at end : ℕ) → OpenPlace b link at end → (link + 2 ≤ 14) ⊎ (16 ≤ link)
 link-apart b link at end p = elim p.link_out [ inl e ↦ inl (omega (arith, e)) | inr f ↦ inr (omega (arith, f, p.table)) ]
 
--- all of the free chunk behind a hole
+-- all of the free chunk after a hole
 pub whole-taken : (b d c : List ℕ) (link at end size next total : ℕ) → IsBeside b link at end → word b link ≡ end
     → size ≡ word b end → next ≡ word b (end + 2) → next < 65536 → total + size ≡ total_free b → d ≡ with_word b link next
     → c ≡ with_word d 14 total →
@@ -71,7 +71,7 @@ written b d1 d2 d3 c link to left next total out low above fits s1 s2 s3 s4 e1 e
       total_is = put d3 c 14 total e4 s4 (omega (arith, n1, n2, n3));
     }
 
--- the free chunk behind a hole lies in the block
+-- the free chunk after a hole lies in the block
 pub free-inside : (b : List ℕ) (link at end : ℕ) → IsBeside b link at end → word b link ≡ end → end + word b end ≤ length b
 free-inside b link at end s is =
     let f = free-behind b link at end s is in
@@ -96,7 +96,7 @@ free-fits b link at end s is =
       sum = omega (arith, g, s.is.total, f.here.3);
     }
 
--- the front of the free chunk behind a hole
+-- the front of the free chunk after a hole
 pub front-taken : (b d1 d2 d3 c : List ℕ) (link at end size left next total : ℕ) → IsBeside b link at end
     → word b link ≡ end → 0 < size → size % 4 ≡ 0 → size < word b end → left + size ≡ word b end → next ≡ word b (end + 2)
     → next < 65536 → total + size ≡ total_free b →

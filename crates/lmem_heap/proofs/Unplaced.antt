@@ -1,4 +1,4 @@
--- An entry that is written where no chunk stands: 0 for 0xFFFF, or 0xFFFF for 0.
+-- A new value for an entry without a chunk: 0 for 0xFFFF, or 0xFFFF for 0.
 use Rattle.std.proofs.Common.{◌≡◌, ◌≢◌, ℕ, ◌+◌, ◌*◌, ◌<◌, ◌≤◌, List, Option, Some, None, length, set, get_or, replicate, refl, ap, sym, ◌∙◌, subst, inl, inr, arith}
 use Rattle.std.proofs.lemmas.Bool.{cases_eq, cases_lt}
 use Rattle.geos_terms.specs.Bytes.{word, with_word, IsShifted}

@@ -27,14 +27,14 @@ use Rattle.lmem_heap.proofs.Sliding.{moved-le, slid-more}
 pub but-itself : (b : List ℕ) → IsHeap b → IsButForEntries b b
 but-itself b heap = record { is = heap; long = refl; same = (λ k h. refl) }
 
--- the words of the header, and those behind the table
+-- the words of the header, and those after the table
 pub but-head : (c b : List ℕ) (k : ℕ) → IsButForEntries c b → k + 2 ≤ 16 → word c k ≡ word b k
 but-head c b k but h = word-bytes b c k k (but.same k (inl (omega arith))) (but.same (k + 1) (inl (omega arith)))
 
 pub but-behind : (c b : List ℕ) (k : ℕ) → IsButForEntries c b → table_end b ≤ k → word c k ≡ word b k
 but-behind c b k but h = word-bytes b c k k (but.same k (inr h)) (but.same (k + 1) (inr (omega (arith, h))))
 
--- bytes that are a heap's but for the entries are that heap where the entries are
+-- bytes that differ from a heap only in the entries are this heap once the entries are equal
 pub but-heap : (c b : List ℕ) → IsButForEntries c b → ((i : ℕ) → i < entries b → entry c i ≡ entry b i) → IsHeap c × (chunks c ≡ chunks b)
 but-heap c b but each =
     let ps = but.is.1.0 in

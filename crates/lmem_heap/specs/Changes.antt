@@ -3,14 +3,14 @@ use Rattle.std.specs.Prelude.{ℕ, ◌+◌, ◌-◌, List, Option, Some, length,
 use Rattle.lmem_raw.specs.Bytes.{part, with_part}
 use Rattle.geos_terms.specs.Chunks.{entry_bytes, resized}
 
--- the chunk of an entry has got n bytes
+-- the chunks, with the chunk of an entry resized to n bytes
 abbrev pub entry_resized : List (Option (List ℕ)) → ℕ → ℕ → List (Option (List ℕ))
 entry_resized chunks i n = slice_set chunks i (Some (resized (entry_bytes chunks i) n))
 
--- bytes that moved up by n from an offset on, over the last n, with zeros where they were
+-- moves the bytes from an offset on up by n, so that the last n are lost, and puts n zeros at the offset
 abbrev pub opened : List ℕ → ℕ → ℕ → List ℕ
 opened bytes at n = with_part (with_part bytes (at + n) (part bytes at (length bytes - (at + n)))) at (replicate n 0)
 
--- bytes that moved down to an offset over n of them
+-- moves the bytes after the n bytes at an offset down by n, over these n bytes
 abbrev pub closed : List ℕ → ℕ → ℕ → List ℕ
 closed bytes at n = with_part bytes at (part bytes (at + n) (length bytes - (at + n)))

@@ -15,7 +15,7 @@ pub record IsExtent (block : List ℕ) (i : ℕ) (extent : Extent) : Type 0 wher
   pub high : (extent.end ≤ length block) × (extent.end ≤ most_block_bytes)
   pub wide : (0 < extent.len) × (extent.begin + cost extent.len ≡ extent.end) × (extent.len + 2 ≤ cost extent.len)
 
--- the entry is in the table, and has a chunk in the block, behind it
+-- the entry is in the table, and its chunk lies in the block, after the table
 pub record HasExtent (block : List ℕ) (i : ℕ) : Type 0 where
   pub known : i < entries block
   pub extent : Extent

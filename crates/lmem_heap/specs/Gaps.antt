@@ -1,4 +1,4 @@
--- Free chunks that go up past the chunks behind them.
+-- Free chunks that move up past the chunks after them.
 use Rattle.std.specs.Prelude.{◌≡◌, ◌≢◌, ℕ, ◌+◌, ◌-◌, ◌%◌, ◌<◌, ◌≤◌, ◌⊎◌, List, [], length, slice_index}
 use Rattle.lmem_raw.specs.Bytes.{part, with_part}
 use Rattle.geos_terms.specs.Bytes.{word, with_word, IsShifted}
@@ -9,8 +9,8 @@ use Rattle.lmem_heap.specs.Slides.{AreInOrder, HasSlid, IsButForEntries}
 use Rattle.lmem_heap.specs.declared.compact.Gap.{Gap}
 use Rattle.lmem_heap.specs.declared.slides.Slide.{Slide}
 
--- a gap of free bytes, the first one: chunks before it, chunks behind it up to its end, and
--- there more free bytes, or none at the block's end
+-- the first gap of free bytes: chunks before it, chunks from its end
+-- to `end`, and there more free bytes, or none at the block's end
 pub record HasGap (block : List ℕ) (gap : Gap) : Type 0 where
   pub pre : List Piece
   pub mid : List Piece
@@ -26,15 +26,15 @@ pub record HasGap (block : List ℕ) (gap : Gap) : Type 0 where
   pub total : total_free block ≡ gap.size + (gap.more + free_bytes post)
   pub places : (16 ≤ gap.first) × (gap.first + gap.size ≤ gap.end) × (gap.end + gap.more ≤ length block)
 
--- the first gap, whatever heap these bytes are but for the entries of its table
+-- the first gap, for any heap that differs from these bytes only in the entries of its table
 pub record IsFirstGap (block : List ℕ) (gap : Gap) : Type 0 where
   pub has : (heap : List ℕ) → IsButForEntries block heap → HasGap heap gap
   pub first : gap.first ≡ first_free block
   pub size : gap.size ≡ word block gap.first
   pub inner : gap.first + gap.size < gap.end
 
--- the chunks behind the gap stand where it began, and behind them it is one free chunk with
--- the free bytes there
+-- the chunks after the gap have moved down to its start; one
+-- free chunk follows them, with the free bytes of both places
 pub record ClosesGap (old new : List ℕ) (gap : Gap) : Type 0 where
   pub long : length new ≡ length old
   pub head : (k : ℕ) → k < 12 → slice_index new k ≡ slice_index old k
@@ -47,21 +47,21 @@ pub record ClosesGap (old new : List ℕ) (gap : Gap) : Type 0 where
   pub next : word new (gap.end - gap.size + 2) ≡ gap.after
   pub behind : IsShifted old new 0 0 (gap.end + gap.more) (length old)
 
--- the words of the free chunk behind the chunks that moved, and the header's word for it
+-- the bytes with the words of the free chunk after the chunks that moved, and the header's word that names it
 unfoldable pub closing_words : List ℕ → Gap → List ℕ
 closing_words block gap = with_word (with_word (with_word block (gap.end - gap.size) (gap.size + gap.more)) (gap.end - gap.size + 2) gap.after) 12
     (gap.end - gap.size)
 
--- the bytes of the chunks behind the gap stand where it began, and behind them the words of the
--- free chunk; the table is as it was
+-- the bytes of the chunks after the gap have moved down to its start,
+-- followed by the words of the free chunk; the table is unchanged
 abbrev pub slid : List ℕ → Gap → List ℕ
 slid block gap = closing_words (with_part block gap.first (part block (gap.first + gap.size) (gap.end - (gap.first + gap.size)))) gap
 
--- the chunks behind the gap, from where they stood to where it began
+-- the move of the chunks after the gap to where it began
 abbrev pub slide_of : Gap → Slide
 slide_of gap = record { from = gap.first + gap.size; end = gap.end; to = gap.first }
 
--- a heap with the same chunks, whose first free chunk stands further up
+-- a heap with the same chunks, whose first free chunk lies further up
 pub record ClosesGaps (old new : List ℕ) : Type 0 where
   pub heap : IsHeap new
   pub chunks : chunks new ≡ chunks old
@@ -69,7 +69,7 @@ pub record ClosesGaps (old new : List ℕ) : Type 0 where
   pub went : first_free old < first_free new
   pub within : first_free old < length old
 
--- these runs have moved on the way from one heap to another with the same chunks
+-- these runs have moved; once the table is corrected, the heap has the same chunks as before
 pub record SlidesGaps (old block : List ℕ) (slides : List Slide) : Type 0 where
   pub heap : List ℕ
   pub slid : HasSlid block heap slides

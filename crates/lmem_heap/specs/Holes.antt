@@ -5,7 +5,7 @@ use Rattle.lmem_heap.specs.Changes.{entry_resized}
 use Rattle.geos_terms.specs.Block.{chunks, entry, entries, handle_word, table_end, first_free, total_free}
 use Rattle.geos_terms.specs.Heap.{Piece, Free, Tiles, HasChunk, IsOffset, AreUsed, IsHeader, IsHeap, free_bytes}
 
--- a link that is the header's word: no piece stands before it
+-- a link that is the header's word: no piece lies before it
 pub record IsFirstLink (block : List ℕ) (link upto : ℕ) (before : List Piece) : Type 0 where
   pub is : link ≡ 12
   pub none : before ≡ []
@@ -24,11 +24,11 @@ pub record IsNextLink (block : List ℕ) (link upto : ℕ) (before : List Piece)
   pub apart : word block link ≢ upto
   pub ends : upto ≡ link - 2 + size
 
--- the word that names the first free chunk behind these pieces, which end at `upto`
+-- the word that names the first free chunk after these pieces, which end at `upto`
 abbrev pub IsLink : List ℕ → ℕ → ℕ → List Piece → Type 0
 IsLink block link upto before = IsFirstLink block link upto before ⊎ IsNextLink block link upto before
 
--- a heap but for the bytes from `at` to `end`, which no piece has; the link lies before them
+-- a heap except for the bytes from `at` to `end`, which belong to no piece; the link lies before them
 pub record IsOpen (block : List ℕ) (link at end : ℕ) : Type 0 where
   pub header : IsHeader block
   pub before : List Piece
@@ -44,7 +44,7 @@ pub record IsOpen (block : List ℕ) (link at end : ℕ) : Type 0 where
   pub all : (i : ℕ) → i < entries block → IsOffset (entry block i) → HasChunk i before ⊎ (HasChunk i ahead ⊎ HasChunk i behind)
   pub total : total_free block ≡ free_bytes before + (free_bytes ahead + free_bytes behind)
 
--- no free chunk lies between the link and those bytes
+-- no free chunk lies between the link and the bytes without a piece
 pub record IsBeside (block : List ℕ) (link at end : ℕ) : Type 0 where
   pub is : IsOpen block link at end
   pub used : AreUsed is.ahead

@@ -3,7 +3,7 @@ use Rattle.std.specs.Prelude.{◌≡◌, ℕ, ◌+◌, ◌-◌, ◌<◌, ◌≤�
 use Rattle.geos_terms.specs.Bytes.{IsShifted}
 use Rattle.geos_terms.specs.Block.{entry, entries, table_end}
 
--- an entry, where what stood from `from` to `end` is at `to` now
+-- an entry after the bytes from `from` to `end` moved to `to`
 abbrev pub entry_moved : ℕ → ℕ → ℕ → ℕ → ℕ
 entry_moved from end to e = if nat_lt from e && nat_lt e end then e - from + to else e
 
@@ -16,7 +16,7 @@ pub record MapsEntries (old new : List ℕ) (f : ℕ → ℕ) (from end : ℕ) :
   pub behind : (k : ℕ) → table_end old ≤ k → slice_index new k ≡ slice_index old k
   pub long : length new ≡ length old
 
--- the chunks that stood from `from` to `end` stand at `to`, and their entries say so
+-- the chunks from `from` to `end` have moved to `to`, and their entries name the new offsets
 pub record MovesRun (old new : List ℕ) (from end to : ℕ) : Type 0 where
   pub long : length new ≡ length old
   pub head : (k : ℕ) → k < 16 → slice_index new k ≡ slice_index old k

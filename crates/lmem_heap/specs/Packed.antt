@@ -7,12 +7,12 @@ use Rattle.geos_terms.specs.Block.{entry, entries, table_end, first_free, total_
 use Rattle.geos_terms.specs.Heap.{Piece, Tiles, HasChunk, IsOffset, AreUsed, IsHeader}
 use Rattle.lmem_heap.specs.Moves.{entry_moved}
 
--- the free bytes begin at an offset: one free chunk, or none where there are none
+-- the free bytes begin at an offset: one free chunk, or none if no byte is free
 pub record EndsFree (block : List ℕ) (at : ℕ) : Type 0 where
   pub none : total_free block ≡ 0 → first_free block ≡ 0
   pub some : 0 < total_free block → (first_free block ≡ at) × (word block at ≡ total_free block) × (word block (at + 2) ≡ 0)
 
--- a heap whose chunks stand side by side, with the free bytes behind them
+-- a heap whose chunks are adjacent, with all free bytes after them
 pub record IsPacked (block : List ℕ) : Type 0 where
   pub header : IsHeader block
   pub pre : List Piece
@@ -24,11 +24,11 @@ pub record IsPacked (block : List ℕ) : Type 0 where
   pub all : (i : ℕ) → i < entries block → IsOffset (entry block i) → HasChunk i pre
   pub ends : EndsFree block at
 
--- where the chunks of such a heap end
+-- the offset at which the chunks of such a heap end
 abbrev pub chunks_end : List ℕ → ℕ
 chunks_end block = length block - total_free block
 
--- the bytes from an offset on are free, and the bytes before it are as they were
+-- the bytes from an offset on are free, and the bytes before it are unchanged
 pub record SetsTail (old new : List ℕ) (at : ℕ) : Type 0 where
   pub long : length new ≡ length old
   pub total : at + total_free new ≡ length new
@@ -39,12 +39,12 @@ pub record SetsTail (old new : List ℕ) (at : ℕ) : Type 0 where
 abbrev pub chunk_length : List ℕ → ℕ → ℕ
 chunk_length block i = word block (entry block i - 2) - 2
 
--- where an entry's chunk ends
+-- the offset at which an entry's chunk ends
 abbrev pub chunk_end : List ℕ → ℕ → ℕ
 chunk_end block i = entry block i - 2 + cost (chunk_length block i)
 
--- the chunks behind that of entry i stand at `to`, with their entries; what lies before it is
--- as it was
+-- the chunks after the chunk of entry i have moved to `to`, and
+-- their entries with them; the bytes before that chunk are unchanged
 pub record EditsChunk (old new : List ℕ) (i to : ℕ) : Type 0 where
   pub long : length new ≡ length old
   pub head : (k : ℕ) → k < 12 → slice_index new k ≡ slice_index old k
@@ -54,13 +54,13 @@ pub record EditsChunk (old new : List ℕ) (i to : ℕ) : Type 0 where
   pub total : to + (chunks_end old - chunk_end old i) + total_free new ≡ length new
   pub ends : EndsFree new (to + (chunks_end old - chunk_end old i))
 
--- the chunk of entry i has n bytes, where it stood: the first ones that fit, and zeros
+-- the chunk of entry i has n bytes at the same place: the first ones that fit, and zeros
 pub record HasResized (old new : List ℕ) (i n : ℕ) : Type 0 where
   pub place : entry new i ≡ entry old i
   pub size : word new (entry old i - 2) ≡ n + 2
   pub bytes : part new (entry old i) n ≡ resized (part old (entry old i) (chunk_length old i)) n
 
--- the table has two more entries, and the chunks stand 4 higher
+-- the table has two more entries, and the chunks have moved up by 4
 pub record GrowsTable (old new : List ℕ) : Type 0 where
   pub long : length new ≡ length old
   pub head : (k : ℕ) → k < 10 → slice_index new k ≡ slice_index old k

@@ -1,4 +1,4 @@
-//! Chunks that come and go.
+//! Chunks that are made and freed.
 ghost use Rattle.std.specs.Prelude.{◌≡◌, ◌<◌, ◌≤◌, length, IfErr, IfOk, IsSome, OnErr, OnOk};
 ghost use Rattle.geos_terms.specs.Chunks.{chunk_of, lowest_entry, need, new_handle, used_bytes, with_entry, with_new, without};
 ghost use Rattle.geos_terms.specs.Block.{chunks, entries, entry, handle_word};

@@ -1,4 +1,4 @@
-//! Chunks that come, go and change their length.
+//! Chunks that are made, freed and resized.
 ghost use Rattle.std.specs.Prelude.{◌≡◌, ◌≢◌, ◌+◌, ◌^◌, ◌<◌, ◌≤◌, replicate, slice_index_or, slice_set, MatchBool};
 ghost use Rattle.geos_terms.specs.Chunks.{cost, cost_of};
 ghost use Rattle.geos_terms.specs.Block.{chunks, entries, entry, handle_word, total_free};
@@ -21,8 +21,8 @@ pub(crate) fn cost(n: usize) -> usize
     if n == 0 { 0 } else { (n + 5) / 4 * 4 }
 }
 
-/// Takes the chunk of an entry away, and leaves the others where they are. The entry is not in
-/// use then, and the chunk's bytes are free.
+/// Frees the chunk of an entry, and leaves the others where they
+/// are. The entry is then unused, and the chunk's bytes are free.
 pub(crate) fn release_chunk(block: &mut [u8], i: usize)
     requires heap { IsHeap block.old }
     requires known { i < entries block.old }
@@ -39,8 +39,7 @@ pub(crate) fn release_chunk(block: &mut [u8], i: usize)
     hole.give_back(block);
 }
 
-/// Gives an entry that is not in use a chunk of n zero bytes. Where no free chunk is large
-/// enough, the others move together.
+/// Gives an unused entry a chunk of n zero bytes. If no free chunk is large enough, the other chunks move together.
 pub(crate) fn new_chunk(block: &mut [u8], i: usize, n: u16)
     requires heap { IsHeap block.old }
     requires known { i < entries block.old }
@@ -60,7 +59,7 @@ pub(crate) fn new_chunk(block: &mut [u8], i: usize, n: u16)
     unreachable!()
 }
 
-/// Gives an entry that is not in use a chunk of n zero bytes, before the first free chunk
+/// Gives an unused entry a chunk of n zero bytes, at the first free chunk
 /// that is large enough. False if none is; then nothing is changed.
 fn place_chunk(block: &mut [u8], i: usize, n: u16) -> bool
     requires heap { IsHeap block.old }
@@ -83,8 +82,8 @@ fn place_chunk(block: &mut [u8], i: usize, n: u16) -> bool
     }
 }
 
-/// Gives a chunk n bytes: the first ones that fit, and zeros after them. Where the free chunk
-/// after it is not large enough, the others move.
+/// Resizes a chunk to n bytes: keeps the first bytes that fit, and adds zeros.
+/// If the free chunk after it is not large enough, the other chunks move.
 pub(crate) fn resize_chunk(block: &mut [u8], i: usize, n: u16)
     requires heap { IsHeap block.old }
     requires known { i < entries block.old }
@@ -157,8 +156,8 @@ fn resize_within(block: &mut [u8], i: usize, n: u16)
     clear(block, chunk.begin + 2 + chunk.len, more);
 }
 
-/// Whether the word at an offset may be that of a free chunk of at least this size. It may be
-/// that of a chunk, too, but where the answer is no, the free list need not be searched.
+/// Whether the word at an offset may be that of a free chunk of at least this size. It may
+/// also be a chunk's word; but if the result is false, the free list need not be searched.
 fn may_be_free(block: &[u8], at: usize, size: usize) -> bool
     requires { at < 2 ^ 32 }
 {
@@ -169,8 +168,8 @@ fn may_be_free(block: &[u8], at: usize, size: usize) -> bool
     word % 4 == 0 && word as usize >= size
 }
 
-/// Gives a chunk another length before the first free chunk that is large enough, and
-/// leaves the others where they are. False if none is; then nothing is changed.
+/// Moves a chunk to the first free chunk that is large enough, with its new length,
+/// and leaves the others where they are. False if none is; then nothing is changed.
 fn move_away(block: &mut [u8], i: usize, n: u16) -> bool
     requires heap { IsHeap block.old }
     requires known { i < entries block.old }

@@ -24,8 +24,7 @@ pub fn contract(block: &mut [u8])
     }
 }
 
-/// Closes the first gap, and where the run after it is short also others, with one pass over the
-/// table for all of them.
+/// Closes the first gap; if the run after it is short, also further gaps, with one pass over the table for all of them.
 fn close_gaps(block: &mut [u8])
     requires heap { IsHeap block.old }
     requires not_compact { IsCompact block.old → ⊥ }
@@ -62,7 +61,7 @@ fn slide_gaps(block: &mut [u8], first: Gap)
     write_entries(block, &slides);
 }
 
-/// The first gap, where the run after it is short.
+/// The first gap, if the run after it is short.
 fn short_gap(block: &[u8]) -> Option<Gap>
     requires { (heap : List ℕ) × IsButForEntries block.now heap }
     ensures { IfSome result (λ gap. IsFirstGap block.now gap) }

@@ -6,9 +6,8 @@ ghost use Rattle.geos_terms.specs.Heap.{IsBlockSize, IsHeap};
 use crate::holes::Hole;
 use lmem_block::{BLOCK_SIZE, put16};
 
-/// Makes the bytes after a heap part of it, as free bytes. The first `old_size` bytes are the
-/// heap as it was, and the block's length is its new size, a legal one. Every chunk keeps its
-/// handle and its bytes, and the table stays as long as it is.
+/// Adds the bytes after a heap to it, as free bytes. The first `old_size` bytes are the heap, and the block's
+/// length is its new size, a legal one. Every chunk keeps its handle and its bytes, and the table keeps its length.
 pub fn enlarged(block: &mut [u8], old_size: u16)
     requires heap { IsHeap (take old_size block.old) }
     requires within { old_size ≤ length block.old }

@@ -1,4 +1,4 @@
-//! Where chunks lie.
+//! The places of chunks.
 ghost use Rattle.lmem_heap.specs.Extents.{HasExtent, IsExtent};
 
 use crate::chunks::cost;

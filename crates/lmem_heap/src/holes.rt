@@ -1,4 +1,4 @@
-//! Holes: bytes that neither a chunk nor a free chunk has, while chunks come and go.
+//! Holes: bytes that belong neither to a chunk nor to a free chunk, while chunks are made, freed or resized.
 ghost use Rattle.std.specs.Prelude.{◌≡◌, ◌≢◌, ◌+◌, ◌-◌, ◌%◌, ◌<◌, ◌≤◌, length, slice_set, IfSome, MatchOption, IsTrue, None, Some, ◌↔◌};
 ghost use Rattle.lmem_raw.specs.Bytes.{part};
 ghost use Rattle.geos_terms.specs.Bytes.{word};
@@ -23,7 +23,7 @@ pub(crate) struct Hole {
 }
 
 impl Hole {
-    /// The hole at these bytes: goes along the free list up to it.
+    /// The hole at these bytes: searches the free list up to it.
     pub(crate) fn at(block: &[u8], at: usize, end: usize) -> Hole
         requires { IsOpen block.now 12 at end }
         ensures hole { IsBeside block.now result.link at end }
@@ -80,7 +80,7 @@ impl Hole {
         Hole::at(block, chunk.begin, chunk.end)
     }
 
-    /// Makes the front of the hole the chunk of an entry that is not in use. Its first `keep`
+    /// Makes the front of the hole the chunk of an unused entry. Its first `keep`
     /// bytes are those of the hole, the others zeros. Returns the rest of the hole.
     pub(crate) fn fill(self, block: &mut [u8], i: usize, keep: usize, n: u16) -> Hole
         requires hole { IsBeside block.old self.link self.at self.end }
@@ -128,8 +128,8 @@ impl Hole {
         Hole::at(block, chunk.begin, chunk.end)
     }
 
-    /// Makes the hole this large, with bytes of the free chunk after it where it is smaller.
-    /// None if they are not enough; then nothing is changed.
+    /// Enlarges the hole to this size with bytes of the free chunk after it,
+    /// if it is smaller. None if they are not enough; then nothing is changed.
     pub(crate) fn widen(self, block: &mut [u8], size: usize) -> Option<Hole>
         requires hole { IsBeside block.old self.link self.at self.end }
         requires fours { (self.end % 4 ≡ 0) × (size % 4 ≡ 0) }
@@ -190,7 +190,7 @@ impl Hole {
         }
     }
 
-    /// Makes the hole's bytes free: one free chunk with those that touch it.
+    /// Frees the hole's bytes: they become one free chunk with those that touch it.
     pub(crate) fn give_back(self, block: &mut [u8])
         requires hole { IsBeside block.old self.link self.at self.end }
         requires fours { self.end % 4 ≡ 0 }

@@ -79,7 +79,7 @@ pub fn delete(block: &mut [u8], chunk: u16, at: u16, count: u16) -> Result<(), D
     Ok(())
 }
 
-/// Gives an entry's chunk n bytes, where the block has room.
+/// Gives an entry's chunk n bytes, if the block has room.
 fn resize(block: &mut [u8], i: usize, n: usize) -> Result<(), RoomError>
     requires heap { IsHeap block.old }
     requires known { i < entries block.old }
@@ -115,7 +115,7 @@ fn open_bytes(block: &mut [u8], i: usize, at: usize, n: usize)
     clear(block, begin, n);
 }
 
-/// Moves the bytes of a chunk after n of them down over those.
+/// Moves the bytes of a chunk that follow n bytes down over them.
 fn close_bytes(block: &mut [u8], i: usize, at: usize, n: usize)
     requires heap { IsHeap block.old }
     requires known { i < entries block.old }

@@ -45,7 +45,7 @@ pub(crate) fn used_with_new(block: &[u8], i: usize, n: u16) -> usize
     if i == entries(block) { used + 4 } else { used }
 }
 
-/// What they take where an entry's chunk has n bytes.
+/// The bytes in use if an entry's chunk has n bytes.
 pub(crate) fn used_with(block: &[u8], i: usize, n: usize) -> usize
     requires heap { IsHeap block.now }
     requires known { i < entries block.now }

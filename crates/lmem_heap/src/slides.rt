@@ -1,4 +1,4 @@
-//! Runs of chunks that have moved, while the table still says where they stood.
+//! Runs of chunks that have moved, while the table still has their old offsets.
 ghost use Rattle.std.specs.Prelude.{◌≡◌, ℕ, ◌+◌, ◌<◌, ◌≤◌, ◌⊎◌, false, length, IsTrue};
 ghost use Rattle.geos_terms.specs.Block.{entries, entry, entry_offset, table_end};
 ghost use Rattle.lmem_heap.specs.Moves.{entry_moved, MapsEntries};
@@ -21,7 +21,7 @@ pub(crate) struct Slide {
 }
 
 impl Slide {
-    /// An entry, where this run has moved.
+    /// An entry after this run has moved.
     fn moved(self, entry: u16) -> u16
         requires { self.to ≤ self.from }
         ensures { result ≡ entry_moved self.from self.end self.to entry }
@@ -100,7 +100,7 @@ fn write_run(block: &mut [u8], slides: &Slides, from: usize, end: usize)
     }
 }
 
-/// An entry, where these runs have moved.
+/// An entry after these runs have moved.
 fn slid_entry(slides: &Slides, entry: u16) -> u16
     requires order { AreInOrder slides.now.low slides.now.runs.now slides.now.high }
     requires some { 0 < length slides.now.runs.now }
@@ -113,7 +113,7 @@ fn slid_entry(slides: &Slides, entry: u16) -> u16
     runs[last_below(runs, entry)].moved(entry)
 }
 
-/// The last run that begins below an entry, by binary search; the first one where none does.
+/// The last run that begins below an entry, by binary search; the first run if none does.
 fn last_below(slides: &[Slide], entry: u16) -> usize
     requires { 0 < length slides.now }
     ensures known { result < length slides.now }

@@ -12,7 +12,7 @@ use lmem_block::{ENTRIES, entries, entry, put16, table_end};
 /// How many entries are compared together.
 const RUN: usize = 16;
 
-/// The lowest entry that is not in use, or the number of entries where all are.
+/// The lowest unused entry, or the number of entries if all are in use.
 pub(crate) fn lowest_entry(block: &[u8]) -> usize
     requires { table_end block.now ≤ length block.now }
     ensures value { result ≡ lowest_entry (chunks block.now) }

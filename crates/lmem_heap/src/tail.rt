@@ -17,7 +17,7 @@ pub(crate) fn pack(block: &mut [u8])
     contract(block);
 }
 
-/// Where the chunks of a packed heap end.
+/// The offset at which the chunks of a packed heap end.
 pub(crate) fn chunks_end(block: &[u8]) -> usize
     requires { IsPacked block.now }
     ensures { result ≡ chunks_end block.now }

@@ -29,7 +29,7 @@ part-before (b ∷ bs) (suc at) ws zero zero h = refl
 part-before (b ∷ bs) (suc at) ws zero (suc n) h = ap (λ xs. b ∷ xs) (part-before bs at ws zero n (omega arith))
 part-before (b ∷ bs) (suc at) ws (suc from) n h = part-before bs at ws from n (omega arith)
 
--- and a part behind it
+-- and a part after it
 pub part-behind : (bs : List ℕ) (at : ℕ) (ws : List ℕ) (from n : ℕ) → at + length ws ≤ from → part (with_part bs at ws) from n ≡ part bs from n
 part-behind [] at ws from n h = refl
 part-behind (b ∷ bs) zero [] from n h = refl

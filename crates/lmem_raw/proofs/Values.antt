@@ -12,7 +12,7 @@ use denote.Shadow.{shadow, makes_shadow}
 use denote.Struct.Struct.{Struct}
 use Rattle.core.proofs.cell.Inside.{Good}
 
--- a struct by its fields alone: what it owns does not read its name
+-- a struct given only by its fields: what it owns does not depend on its name
 abbrev pub plainly : List RattleType → RattleType
 plainly Rs = Struct (record { name = []; args = []; types = []; fields = Rs })
 

@@ -37,8 +37,8 @@ impl Region {
     ghost use Rattle.lmem_raw.specs.Bytes.{part, with_part};
     ghost use Rattle.lmem_raw.specs.Parts.{LendsPart};
 
-    /// A region of `size` zero bytes. This is the only call that takes memory; `AllocError`
-    /// where the allocator has none.
+    /// A region of `size` zero bytes. This is the only call that
+    /// allocates memory; `AllocError` if the allocator has none.
     pub fn new(alloc: Global, size: u32) -> Result<Region, AllocError>
         ensures { IfOk result (λ region. region ≡ replicate size 0) }
     {
@@ -120,8 +120,8 @@ impl Region {
         self.slice_mut(at, count).fill(byte);
     }
 
-    /// Writes the `count` bytes from `from` on at `to`. They are the bytes from before, also where
-    /// the two ranges overlap; every byte outside the target stays.
+    /// Copies the `count` bytes from `from` on to `to`, with their old values,
+    /// also if the two ranges overlap. Every byte outside the target stays.
     pub fn move_bytes(&mut self, from: u32, to: u32, count: u32)
         requires { (from + count ≤ length self.old) × (to + count ≤ length self.old) }
         ensures { self.new ≡ with_part self.old to (part self.old from count) }
@@ -131,7 +131,7 @@ impl Region {
         self.slice_mut(0, len).copy_within(from..from + count, to);
     }
 
-    /// Lends the `count` bytes from `at` on for reading.
+    /// Borrows the `count` bytes from `at` on for reading.
     pub fn slice(&self, at: u32, count: u32) -> &[u8]
         requires { at + count ≤ length self.now }
         ensures { result.now ≡ part self.now at count }
@@ -139,8 +139,8 @@ impl Region {
         self.raw.slice(at as usize, count as usize)
     }
 
-    /// Lends the `count` bytes from `at` on for writing. Once the loan ends, the region has there
-    /// what was left in it, and every other byte is as before.
+    /// Borrows the `count` bytes from `at` on for writing. When the borrow ends, the
+    /// region has the bytes that were left in them, and every other byte is unchanged.
     pub fn slice_mut(&mut self, at: u32, count: u32) -> &mut [u8]
         requires { at + count ≤ length self.old }
         ensures* writes_back { sem 𝓛 (LendsPart self.entry at count result) }

@@ -21,7 +21,7 @@ impl Model for RawBytes {
     ghost also_shares = { λ h _ κ. raw_lent h.ptr h.bytes h.spare κ };
 }
 
-/// The right to give the block of `size` bytes at `ptr` back to `alloc`.
+/// The right to release the block of `size` bytes at `ptr` to `alloc`.
 pub(crate) struct DeallocToken<A: Allocator> {
     marker: PhantomData<A>,
     pub(crate) ghost alloc: { A },

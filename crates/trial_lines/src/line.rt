@@ -86,13 +86,13 @@ impl<'a> Line<'a> {
         self.word_at(place).min(255) as u8
     }
 
-    /// What stands in the line's word after this beginning.
+    /// The rest of the line's word after this beginning.
     pub fn word_behind(&self, beginning: &str) -> Option<&'a str> {
         self.word.strip_prefix(beginning)
     }
 }
 
-/// What stands in a line before a comment.
+/// The part of a line before a comment.
 pub fn before_comment(text: &str) -> &str {
     match text.split_once(';') {
         Some((text, _)) => text,

@@ -27,7 +27,7 @@ impl<T: Copy + PartialEq + fmt::Display> fmt::Display for Runs<'_, T> {
     }
 }
 
-/// Shows a number that stands so often after itself.
+/// Shows a number that is repeated so many times.
 fn fmt_run<T: Copy + fmt::Display, W: fmt::Write>(
     f: &mut fmt::Formatter<W>,
     number: T,

@@ -8,7 +8,7 @@ use std::fmt;
 #[derive(Drop)]
 struct Run<R> {
     first: Answer<R>,
-    /// How many answers stand after the first one.
+    /// How many answers follow the first one.
     others: u32,
     /// Whether they ascend.
     ascends: bool,

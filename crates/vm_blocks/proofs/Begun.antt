@@ -193,4 +193,5 @@ module _ {D : Type 0} (medium : Medium D) (v : VmState D) (s : Store) (lists : I
           legal = record { cur = loaded-legal cur cur-is; saved = saved-is; kept = kept-legal v.file.sure };
         };
         region = refl;
+        handles = refl;
       }

@@ -48,7 +48,7 @@ some-listed good read e (Some b) o is = ap is_none is
 some-listed good read e None None is = absurd is
 some-listed good read e None (Some l) is = refl
 
--- a block that is not in memory is not held, and has the size that is listed
+-- a block that is not in memory is neither marked nor locked, and has the listed size
 away-told : (good : Type 0) (read : List ℕ) (e : Held) (o : Option VmBlock) → IsListedAs good read (Some e) None o
     → (is_held_in o ≡ false) × (model.size_in (option_map (λ (l : VmBlock). l.block) o) ≡ e.len)
 away-told good read e None is = absurd is

@@ -37,7 +37,7 @@ use Rattle.vm_blocks.proofs.Wanting.{always-listed, discards-remain, listed-more
 -- The device
 
 module _ {D : Type 0} (medium : Medium D) where
-  -- it was asked nothing
+  -- the device was not called
   pub reads-nothing : (fails : Type 0) (f : FileState D) → (fails → ⊥) → ReadsDevice medium fails f f
   reads-nothing fails f never = record {
     pair = refl;

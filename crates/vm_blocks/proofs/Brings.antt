@@ -42,7 +42,7 @@ drops old mid new h ws there m n =
     }
 
 module _ {D : Type 0} (medium : Medium D) (v : VmState D) where
-  -- what is kept stays tied
+  -- a block that stays in memory or is evicted remains tied
   pub kept-tied : (s t : Store) (h k : ℕ) → IsHandle k → IsTied medium v s → KeptOrGoes v s t h (vm_slot k)
       → TiedAt medium v.file k (held_at v k) (block_at t (vm_slot k))
   kept-tied s t h k p tied (inl u) = subst (TiedAt medium v.file k (held_at v k)) (sym u.0) (tied.each k p)
@@ -127,7 +127,7 @@ pub made-room : {D : Type 0} {size : ℕ} (v : VmState D) (old new : Store) (nam
     → DiscardsAndMakes v old new name size → DiscardsAndMakes v old new (vm h) size
 made-room {D} {size} v old new name h is made = subst (λ n. DiscardsAndMakes v old new n size) is made
 
--- what keeps others, and then changes the one alone, keeps them
+-- if a step preserves the other blocks, and the next one changes only this block, both together preserve the others
 pub keeps-more : {D : Type 0} (v : VmState D) (a b c : Store) (h : ℕ) → Keeps v a b h
     → ((slot : ℕ) → slot ≢ vm_slot h → block_at c slot ≡ block_at b slot) → ((slot : ℕ) → slot ≢ vm_slot h → place_of c slot ≡ place_of b slot)
     → IsLaidOut c → c.len ≡ b.len → Keeps v a c h

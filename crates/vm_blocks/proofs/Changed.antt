@@ -55,12 +55,13 @@ module _ {D : Type 0} (medium : Medium D) (v : VmState D) (s t : Store) (m : Mem
     blocks = is.blocks ∙ sym (slots-same s t tied.laid thins.laid (λ slot l. mem-thinned v s t but slot thins l));
     file = file-thins medium v s t but m.file tied thins is.file;
     region = is.region ∙ ap (λ l. l.most) (sym thins.len);
+    handles = is.handles ∙ ap (λ l. l.handles) (sym thins.len);
   }
 
   -- the device was read
   pub memory-device : (d : D) → medium.image d ≡ medium.image v.file.device → (medium.honest d → medium.honest v.file.device)
       → IsMemoryOf medium (with_device v d) s m
-  memory-device d same was = record { blocks = is.blocks; file = file-device medium v d same was s m.file is.file; region = is.region }
+  memory-device d same was = record { blocks = is.blocks; file = file-device medium v d same was s m.file is.file; region = is.region; handles = is.handles }
 
   module _ (h : ℕ) (p : IsHandle h) (tied : IsTied medium v s) (keeps : Keeps v s t h) where
     -- something was given for one block
@@ -69,6 +70,7 @@ module _ {D : Type 0} (medium : Medium D) (v : VmState D) (s t : Store) (m : Mem
       blocks = is.blocks ∙ sym (slots-same s t tied.laid keeps.laid (λ slot l. mem-kept v s t h slot p keeps l));
       file = g.file;
       region = is.region ∙ ap (λ l. l.most) (sym keeps.len);
+      handles = is.handles ∙ ap (λ l. l.handles) (sym keeps.len);
     }
 
     -- something else is listed under a handle
@@ -92,6 +94,7 @@ module _ {D : Type 0} (medium : Medium D) (v : VmState D) (s t : Store) (m : Mem
             blocks = is.blocks ∙ sym (slots-same s t tied.laid keeps.laid (λ slot l. mem-kept v s t h slot p keeps l));
             file = file-cur medium v w s t m.file now file (current-entry medium w t cur h p x is.file.cur.handles maps own other) legal is.file;
             region = is.region ∙ ap (λ l. l.most) (sym keeps.len);
+            handles = is.handles ∙ ap (λ l. l.handles) (sym keeps.len);
           }
 
     -- a block that is in memory
@@ -129,7 +132,7 @@ module _ {D : Type 0} (medium : Medium D) (v : VmState D) (s t : Store) (m : Mem
           (is.file.cur.map_block, is.file.cur.map_group, is.file.cur.map_item) own
           (entry-legal IsLegalListed (λ (l : VmBlock). l.uid) cur is.file.legal.cur h x good uid)
 
-      -- it is marked, or not, and else as it was
+      -- a block becomes marked, or not, and is otherwise unchanged
       pub memory-marked : (w : VmState D) (marked : Bool) → w.file ≡ v.file → ((k : ℕ) → k ≢ h → held_at w k ≡ held_at v k)
           → (w.map_block ≡ v.map_block) → (w.map_item ≡ v.map_item)
           → held_at w h ≡ Some (record e { marked = marked }) → block_at t (vm_slot h) ≡ Some b → IsMemoryOf medium w t (with_mark m h marked)

@@ -95,6 +95,7 @@ module _ {D : Type 0} (medium : Medium D) (v w : VmState D) (s : Store) (m : Mem
       legal = record { cur = is.file.legal.cur; saved = is.file.legal.saved; kept = legal };
     };
     region = is.region;
+    handles = is.handles;
   })
 
 -- The call
@@ -205,7 +206,7 @@ module _ {D : Type 0} (medium : Medium D) (v w : VmState D) (s t : Store) (how :
         (pair_of medium.image v.file) (pair_of medium.image (now medium v w s m is whole-state c.was (λ g. c.pair (c.was g))).file) p
         (pair-same medium v w s m is whole-state c.was (λ g. c.pair (c.was g))) is_p
 
-    -- what is kept where it is still sure, and where it is not
+    -- what is committed if the file is still sure, and if it is not
     kept-sure : w.file.sure ≡ true → (k : Kept) → IsKeptOf medium.image medium.honest v.file k
         → IsKeptOf medium.image medium.honest (now medium v w s m is whole-state c.was (λ g. c.pair (c.was g))).file k
     kept-sure sure (Sure p) k = (sure, old-pair p k.1)

@@ -76,7 +76,7 @@ module _ {D : Type 0} (medium : Medium D) (v : VmState D) (s : Store) (m : Memor
   abbrev pub blocks_now : List file.Block
   blocks_now = (contents_from (resident_of s) (pair_of medium.image v.file).cur.blocks (directory_of v s)).blocks
 
-  -- what is read of the contents that are to be kept
+  -- the bytes of a block in the contents to be committed
   pub bytes-now : (h : ℕ) (e : Held) (b : Option Block) → IsHandle h → held_at v h ≡ Some e → block_at s (vm_slot h) ≡ b
       → bytes_of_block blocks_now h ≡ unwrap_or (option_map (λ (x : Block). x.bytes) b) (bytes_read medium.image v.file h)
   bytes-now h e b p listed there =
@@ -124,7 +124,7 @@ module _ {D : Type 0} (medium : Medium D) (v : VmState D) (s : Store) (m : Memor
     map_item = is.file.cur.map_item;
   }
 
-  -- the pair that is to be kept
+  -- the pair to be committed
   pub kept-is : (how : How) → IsPairOf good (current_after how (directory_of v s) v.file.saved)
       (saved_after how (directory_of v s) v.file.saved) (kept_after medium.image (resident_of s) how (directory_of v s) v.file)
       (pair_to_keep (keeper_of how) m)

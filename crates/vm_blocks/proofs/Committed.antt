@@ -78,7 +78,7 @@ module _ {D : Type 0} (medium : Medium D) (v w : VmState D) (s t : Store) (m : M
   well = medium.honest w.file.device
 
   module _ (how : How) (d : IsDone medium how v w s t) where
-    -- what is kept now
+    -- the committed pair after the call
     now-pair : IsPairOf well w.file.current w.file.saved (pair_of medium.image w.file) (pair_to_keep (keeper_of how) m)
     now-pair =
         let old = kept-is medium v s m is how in
@@ -89,7 +89,7 @@ module _ {D : Type 0} (medium : Medium D) (v w : VmState D) (s t : Store) (m : M
         subst (λ x. IsPairOf well x w.file.saved (pair_of medium.image w.file) p) (sym d.current)
         (subst (λ x. IsPairOf well (current_after how (directory_of v s) v.file.saved) x (pair_of medium.image w.file) p) (sym d.saved) next)
 
-  -- the current directory goes on: what is in memory stays there
+  -- the current directory is unchanged, and blocks in memory stay there
   goes-on : (how : How) (d : IsDone medium how v w s t) → t ≡ s → w.file.current ≡ directory_of v s
       → (well → (h : ℕ) → bytes_read medium.image w.file h ≡ bytes_of_block (blocks_now medium v s m is) h)
       → (h : ℕ) → IsHandle h → IsListedAs well (bytes_read medium.image w.file h) (held_at w h) (block_at t (vm_slot h))
@@ -163,4 +163,5 @@ module _ {D : Type 0} (medium : Medium D) (v w : VmState D) (s t : Store) (m : M
             legal = record { cur = loaded-legal pair_now.cur legal.0; saved = legal.1; kept = legal };
           };
           region = is.region ∙ ap (λ l. l.most) (sym (store-len how d.store));
+          handles = is.handles ∙ ap (λ l. l.handles) (sym (store-len how d.store));
         }

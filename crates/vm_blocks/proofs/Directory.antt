@@ -1,4 +1,4 @@
--- The current directory is a legal one, and lists what is held.
+-- The current directory is legal, and lists what the table has.
 use Rattle.std.proofs.Common.{◌≡◌, ◌≢◌, ◌∙◌, ℕ, zero, suc, ◌+◌, ◌%◌, ◌≤◌, ◌<◌, Bool, true, false, not, ◌&&◌, ◌||◌, List, ◌++◌, length, map, Option, Some, None, refl, sym, ap, subst, arith, inl, inr}
 use Rattle.std.specs.Prelude.{IsSomeAnd, option_map, unwrap_or}
 use Rattle.std.specs.List.{find, flat_map, list_any, range_with_len}
@@ -27,7 +27,7 @@ is-size : (n : ℕ) → IsBlockSize n → is_block_size n ≡ true
 is-size n s = and-true (leb 64 n && leb n 65520) (eqb (n % 16) 0) (and-true (leb 64 n) (leb n 65520) (le-leb 64 n s.0) (le-leb n 65520 s.1))
     (eq-eqb (n % 16) 0 s.2)
 
--- a handle under which something is held is one
+-- a number under which the table has an entry is a handle
 pub some-held : (es : List (Option Held)) (h : ℕ) (P : Held → Type 0) → length es ≡ 1024 → IsSomeAnd (at_handle None es h) P → IsHandle h
 some-held es zero P long some = absurd some
 some-held es (suc h) P long some = elim (cases_lt h 1024) [
@@ -45,7 +45,7 @@ module _ {D : Type 0} (v : VmState D) (s : Store) where
       → find (λ x. eqb x.h h) (entries_in h (Some e) b ++ rest) ≡ Some (record { h = h; uid = e.uid; len = len_now e b })
   found-here h e b rest = rw (eq-eqb h h refl) refl
 
-  -- what a directory lists of what is held
+  -- the directory entry for an entry of the table
   abbrev entry_for : ℕ → Option Held → Option Block → Option Entry
   entry_for h None b = None
   entry_for h (Some e) b = Some (record { h = h; uid = e.uid; len = len_now e b })
@@ -80,7 +80,7 @@ module _ {D : Type 0} (v : VmState D) (s : Store) where
       → find (λ x. eqb x.h h) (entries_to v s 1024) ≡ Some (record { h = h; uid = e.uid; len = len_now e (block_at s (vm_slot h)) })
   found-some h e p is = found h p ∙ ap (λ o. entry_for h o (block_at s (vm_slot h))) is
 
-  -- what the current directory lists under a handle, as it is held after a commit
+  -- what the current directory lists under a handle becomes the table's entry after a commit
   pub listed-held : (h : ℕ) → IsHandle h → held_in (directory_of v s) h ≡ option_map (λ e. cleaned (len_now e (block_at s (vm_slot h))) e)
       (held_at v h)
   listed-held h p = ap (option_map as_held) (found h p) ∙ on (held_at v h) (block_at s (vm_slot h))
@@ -89,11 +89,11 @@ module _ {D : Type 0} (v : VmState D) (s : Store) where
       on None b = refl
       on (Some e) b = refl
 
-  -- a block that is held is in the directory
+  -- a block in the table is in the directory
   pub has-held : (h : ℕ) (e : Held) → IsHandle h → held_at v h ≡ Some e → HasBlock (directory_of v s) h (len_now e (block_at s (vm_slot h)))
   has-held h e p is = rw (found-some h e p is) refl
 
-  -- its bytes are those that are in memory, else those that were kept
+  -- the block's bytes are those in memory if it is there, otherwise the committed ones
   pub bytes-held : (kept : List file.Block) (h : ℕ) (e : Held) → IsHandle h → held_at v h ≡ Some e
       → bytes_of_block (map (block_from (resident_of s) kept) (entries_to v s 1024)) h ≡ unwrap_or (resident_of s h) (bytes_of_block kept h)
   bytes-held kept h e p is = bytes_found (resident_of s) kept (entries_to v s 1024) h

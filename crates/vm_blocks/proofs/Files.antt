@@ -60,7 +60,7 @@ module _ {D : Type 0} (medium : Medium D) (f : FileState D) (h : ℕ) where
 
 -- The file
 
--- where the file of the device is the same, another current directory may stand
+-- if the file of the device is unchanged, the model's file may have another current directory
 pub file-cur : {D : Type 0} (medium : Medium D) (v w : VmState D) (s t : Store) (f : VmFile) (cur : Directory VmBlock)
     → w.file ≡ v.file → IsCurrentOf medium.image medium.honest w t cur → IsCurrent cur
     → IsFileOf medium.image medium.honest v s f → IsFileOf medium.image medium.honest w t (record f { cur = cur })
@@ -92,7 +92,7 @@ module _ {D : Type 0} (medium : Medium D) (v : VmState D) where
       } in
       file-cur medium v v s t f f.cur refl cur is.legal.cur is
 
-  -- a block that kept its place in the model, or was discarded
+  -- a block stays as listed in the model, in memory or evicted
   pub stays-listed : (s t : Store) (but h : ℕ) (listed : Option VmBlock) → IsHandle h → IsTied medium v s
       → IfSome listed IsLegalListed → IsListedIn s h listed → Goes v s t but (vm_slot h) → IsListedIn t h listed
   stays-listed s t but h listed p tied legal is g =
@@ -175,7 +175,7 @@ module _ {D : Type 0} (medium : Medium D) (v : VmState D) (d : D) (same : medium
 -- Another block under a handle
 
 module _ {D : Type 0} (medium : Medium D) (w : VmState D) (t : Store) (cur : Directory VmBlock) (h : ℕ) (p : IsHandle h) (x : Option VmBlock) where
-  -- what is written under a handle stands there, and all else as it did
+  -- the directory has the new entry under its handle, and is otherwise unchanged
   pub current-entry : length cur.blocks ≡ 1024 → (cur.map_block ≡ w.map_block) × (cur.map_group ≡ w.map_item.0)
       × (cur.map_item ≡ w.map_item.1) → IsListedIn medium w t h x
       → ((k : ℕ) → IsHandle k → k ≢ h → IsListedIn medium w t k (at_handle None cur.blocks k))

@@ -1,4 +1,4 @@
--- What `open` finds is what the model has as kept.
+-- What `open` finds is what the model has committed.
 use Rattle.std.proofs.Common.{◌≡◌, ◌∙◌, ℕ, List, Ok, refl, ap, subst, inl, inr}
 use Rattle.std.specs.Prelude.{◌⊎◌, MatchBool}
 use Rattle.geos_calls.specs.VmFile.{Kept, Sure, Unsure}

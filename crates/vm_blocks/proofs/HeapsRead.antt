@@ -1,4 +1,4 @@
--- What bytes that are read spell.
+-- What bytes that are read encode.
 use Rattle.std.proofs.Common.{◌≡◌, ℕ, suc, ◌%◌, ◌<◌, ◌≤◌, Bool, true, false, List, [], ◌∷◌, Option, Some, None, length, refl, sym, subst, arith}
 use Rattle.std.specs.Prelude.{All, ◌==◌, nat_le, if◌then◌else◌}
 use Rattle.std.specs.List.{list_all}
@@ -66,13 +66,13 @@ read-size size bytes = on (can_hold size (chunks bytes))
     on true = refl
     on false = refl
 
--- of bytes that spell a legal heap, that is read
+-- if bytes encode a legal heap, this heap is read
 pub read-spelled : (size : ℕ) (bytes : List ℕ) → length bytes ≡ size → IsLegalHeap (heap_in bytes) → heap_read size bytes ≡ heap_in bytes
 read-spelled size bytes long legal =
     let holds : can_hold size (chunks bytes) ≡ true = subst (λ n. can_hold n (chunks bytes) ≡ true) long (can-hold (heap_in bytes) legal) in
     let back : size ≡ length bytes = sym long in
     rw holds (λ k. record { chunks = chunks bytes; size = back k })
 
--- a heap of bytes spells a legal one
+-- the bytes of a heap encode a legal heap
 pub spelled-legal : (bytes : List ℕ) → IsHeap bytes → AreBytes bytes → IsLegalHeap (heap_in bytes)
 spelled-legal bytes heap are = heap-legal bytes heap are

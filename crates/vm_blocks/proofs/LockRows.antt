@@ -191,7 +191,7 @@ not-full n ne = grind (arith, nat_tests, ne)
 full : (n : ℕ) → n ≡ 65535 → (n == 65535) ≡ true
 full n e = grind (arith, nat_tests, e)
 
--- a test that does not hold may stand behind the first
+-- a second test that does not refuse changes nothing
 same-tests : (x y : Bool) (a b : Refusal) (rest : List (Bool × Refusal)) → y ≡ false
     → first_refusal ((x, a) ∷ (y, b) ∷ rest) ≡ first_refusal ((x, a) ∷ rest)
 same-tests true y a b rest e = refl

@@ -59,7 +59,7 @@ module _ {D : Type 0} (medium : Medium D) (v : VmState D) (s : Store) (tied : Is
         chosen false false [],
         record { given = λ g. refl; device = λ g t. absurd cc },
         with_cur m cur,
-        record { blocks = is.blocks; file = file-cur medium v w s s m.file cur refl now legal is.file; region = is.region },
+        record { blocks = is.blocks; file = file-cur medium v w s s m.file cur refl now legal is.file; region = is.region; handles = is.handles },
         rw (t.0, t.1) refl,
       )
     where
@@ -87,7 +87,7 @@ module _ {D : Type 0} (medium : Medium D) (v : VmState D) (s : Store) (tied : Is
         chosen false false [],
         record { given = λ g. refl; device = λ g t. absurd cc },
         with_cur m cur,
-        record { blocks = is.blocks; file = file-cur medium v w s s m.file cur refl now legal is.file; region = is.region },
+        record { blocks = is.blocks; file = file-cur medium v w s s m.file cur refl now legal is.file; region = is.region; handles = is.handles },
         rw (t.0, t.1) refl,
       )
     where

@@ -1,4 +1,4 @@
--- What is mapped, as a directory of the device says it and as it is held.
+-- What is mapped, in a directory of the device and in the table.
 use Rattle.std.proofs.Common.{◌≡◌, ◌∙◌, ℕ, ◌≤◌, Bool, true, false, ◌&&◌, ◌||◌, cond, List, [], ◌∷◌, Some, refl, ap, arith}
 use Rattle.std.specs.Prelude.{IsSomeAnd}
 use Rattle.std.specs.List.{find, list_any}
@@ -13,7 +13,7 @@ pub or-true : (a b : Bool) → b ≡ true → (a || b) ≡ true
 or-true true b e = refl
 or-true false b e = e
 
--- what is found and is such a one is one of such
+-- if the entry that is found has a property, some entry has it
 pub find-any : (p : Entry → Bool) (es : List Entry) (h : ℕ) (x : Entry) → find (λ e. eqb e.h h) es ≡ Some x → p x ≡ true
     → list_any (λ e. eqb e.h h && p e) es ≡ true
 find-any p [] h x found such = absurd cc

@@ -1,4 +1,4 @@
--- A block that has changed in memory is marked behind it.
+-- A block that has changed in memory is marked afterwards.
 use Rattle.std.proofs.Common.{◌≡◌, ◌≢◌, ◌∙◌, ℕ, Option, Some, None, true, refl, sym, ap, subst, inl, inr}
 use Rattle.std.specs.Prelude.{IfSome, option_map}
 use Rattle.geos_terms.specs.Block.{handle_word}
@@ -27,7 +27,7 @@ use Rattle.vm_blocks.proofs.LockRows.{Known, known}
 use Rattle.vm_blocks.proofs.Slots.{some-block}
 use Rattle.vm_blocks.proofs.Table.{held-other, held-same}
 
--- what is kept is kept where the same is listed under other handles
+-- what is preserved under one table is preserved under another that lists the same under other handles
 keeps-as : {D : Type 0} (v w : VmState D) (s t : Store) (h : ℕ) → ((k : ℕ) → k ≢ h → held_at w k ≡ held_at v k) → Keeps v s t h → Keeps w s t h
 keeps-as {D} v w s t h same keeps = record { each = λ slot ne. on slot (keeps.each slot ne); laid = keeps.laid; len = keeps.len }
   where
@@ -126,6 +126,7 @@ module _ {D : Type 0} (medium : Medium D) (v : VmState D) (s : Store) (h : ℕ) 
               (current-entry medium w s cur h was.handle x f.cur.handles (f.cur.map_block, f.cur.map_group, f.cur.map_item) entry others)
               (entry-legal IsLegalListed (λ (l : VmBlock). l.uid) cur f.legal.cur h x legal_x uid) f;
           region = is.region;
+          handles = is.handles;
         }
 
 -- a block that is in memory and as it was has changed into itself

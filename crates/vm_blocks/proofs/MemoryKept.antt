@@ -1,4 +1,4 @@
--- The model's memory goes on where others change the region.
+-- The model's memory is unchanged by other changes of the region.
 use Rattle.std.proofs.Common.{◌≡◌, ◌≢◌, ℕ, ◌+◌, ◌-◌, Option, Some, None, true, false, refl, sym, ap, ◌∙◌, subst, arith}
 use Rattle.std.specs.Prelude.{IfSome, option_map}
 use Rattle.geos_terms.specs.Names.{vm}
@@ -39,6 +39,7 @@ module _ {D : Type 0} (medium : Medium D) (v : VmState D) where
     file = subst (IsFileOf medium.image medium.honest v t)
         (sym over.file) is;
     region = over.region;
+    handles = over.handles;
   }
 
   pub others-may-change : OthersMayChange medium v

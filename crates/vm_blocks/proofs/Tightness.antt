@@ -1,5 +1,4 @@
--- Where all that may be discarded was, and no stretch of the region has room, the model says
--- that room may be wanting.
+-- If all idle blocks were evicted, and no stretch of the region has room, the model says that room may be lacking.
 use Rattle.std.proofs.Common.{◌≡◌, ◌≢◌, ℕ, zero, suc, ◌+◌, ◌-◌, ◌*◌, ◌<◌, ◌≤◌, List, [], ◌∷◌, ◌++◌, length, length-take, length-append, map, take, get_or, Option, Some, None, Bool, true, false, refl, sym, ap, ◌∙◌, arith, inl, inr}
 use Rattle.std.specs.Prelude.{◌||◌, ◌&&◌, ◌==◌, not, sum_by, count_by, nat_lt, nat_eq, cond, if◌then◌else◌}
 use Rattle.std.proofs.lemmas.Bool.{cases_eq, cases_lt}
@@ -47,7 +46,7 @@ total_sum g xs d f (suc n) le same =
 less-test : (a b : ℕ) → a < b → nat_lt a b ≡ true
 less-test a b l = grind (arith, l)
 
--- What is told of a block, and of what the model has of it
+-- A value of a block, and the value of the model's block
 
 module _ (f : Option Block → ℕ) (g : Option model.Block → ℕ) (same : (o : Option Block) → f o ≡ g (block_in o)) where
   -- a block of the file that may not be discarded stays in memory
@@ -71,7 +70,7 @@ module _ (f : Option Block → ℕ) (g : Option model.Block → ℕ) (same : (o 
   abbrev other_told : Store → ℕ → ℕ → ℕ
   other_told s but slot = if nat_eq slot but then 0 else f (block_at s slot)
 
-  -- what is told of slots, added, is what is told of two tables
+  -- the sum of the values of slots is the sum of the values of two tables
   pub crowd : (s : Store) (but : ℕ) (xs : List (Option model.Block)) (ys : List (Option VmBlock)) → length xs ≡ 1024 → length ys ≡ 1024
       → ((k : ℕ) → IsHandle k → other_told s but (k - 1) ≡ g (at_handle None xs k))
       → ((k : ℕ) → IsHandle k → other_told s but (1023 + k) ≡ g (staying (at_handle None ys k)))
@@ -118,7 +117,7 @@ module _ {D : Type 0} (medium : Medium D) (v : VmState D) (s : Store) (m : Memor
   mem-long : length m.blocks ≡ 1024
   mem-long = ap length is.blocks ∙ omega (arith, length-map (take 1024 s.blocks) block_in, length-take 1024 s.blocks, tied.laid.slots)
 
-  -- a slot of global memory spells what the model has
+  -- a slot of global memory encodes what the model has
   mem-spelled : (k : ℕ) → IsHandle k → at_handle None m.blocks k ≡ block_in (block_at s (k - 1))
   mem-spelled zero p = absurd (omega (arith, p.0))
   mem-spelled (suc k) p =

@@ -21,7 +21,7 @@ use Rattle.vm_blocks.specs.Listed.{IsListOf, StoreAfter, cleaned, directory_of, 
 use Rattle.vm_blocks.proofs.Opened.{list-maps, opened-tied}
 use Rattle.vm_blocks.proofs.Directory.{bytes-held, has-held, listed-held}
 
--- the current directory is kept
+-- the current directory is committed
 module _ {D : Type 0} (medium : Medium D) (v w : VmState D) (s : Store) (tied : IsTied medium v s) (long : length w.entries ≡ 1024)
     (legal : is_directory w.file.current ≡ true)
     (lists : IsListOf w w.file.current) (current : w.file.current ≡ directory_of v s) (was : medium.honest w.file.device

@@ -14,7 +14,7 @@ use Rattle.vm_blocks.specs.declared.entries.Held.{Held}
 use Rattle.vm_blocks.specs.Listed.{as_held}
 use Rattle.vm_blocks.proofs.Stored.{not-found}
 
--- the first so many handles are listed, and the entries from one on are those behind them
+-- the first i handles are listed, and the entries from `next` on are those of later handles
 pub record Walks (es : List Entry) (table : List (Option Held)) (i next : ℕ) : Type 0 where
   pub long : length table ≡ 1024
   pub done : (k : ℕ) → k < i → get_or table k None ≡ option_map as_held (find (λ e. e.h == k + 1) es)
@@ -22,7 +22,8 @@ pub record Walks (es : List Entry) (table : List (Option Held)) (i next : ℕ) :
   pub rest : are_entries i (drop next es) ≡ true
   pub front : (h : ℕ) → i < h → find (λ e. e.h == h) es ≡ find (λ e. e.h == h) (drop next es)
 
--- the next handle is walked past: it is found where its entry begins the rest, and the rest goes on behind it
+-- the walk passes the next handle: if the handle has an entry,
+-- it is the first of the rest; the rest then continues after it
 record Passes (i : ℕ) (from to : List Entry) (e : Option Entry) : Type 0 where
   pub rest : are_entries (i + 1) to ≡ true
   pub found : find (λ x. x.h == i + 1) from ≡ e

@@ -1,4 +1,4 @@
--- That blocks go only where room is wanting.
+-- Blocks are evicted only if room is lacking.
 use Rattle.std.proofs.Common.{◌≡◌, ◌≢◌, ℕ, ◌≤◌, ◌<◌, Option, Some, None, true, false, sym, ap, ◌∙◌, arith, subst, inl, inr}
 use Rattle.std.specs.Prelude.{◌↔◌, IfSome, Result, Err, is_some}
 use Rattle.std.proofs.lemmas.Bool.{cases_lt}
@@ -18,7 +18,7 @@ use Rattle.vm_blocks.specs.View.{VmState, held_at, vm_slot}
 use Rattle.vm_blocks.proofs.Brings.{made-other}
 use Rattle.vm_blocks.proofs.Slots.{slot-one}
 
--- a request of a legal size is refused for want of room alone
+-- a request of a legal size fails only for lack of room
 pub refused-for-room : (size : ℕ) (why : RoomError) (r : Result (Unit {0}) RoomError) (P : Type 0) → r ≡ Err why
     → size ≤ most_block_bytes → (r ≡ Err NoRoom → P) → ((r ≡ Err TooBig) ↔ (most_block_bytes < size)) → P
 refused-for-room size NoRoom r P is fits no_room too_big = no_room is
@@ -50,7 +50,7 @@ module _ (s t : Store) (h size : ℕ) where
   pub same-remain : t ≡ s → RemainOrNoRoom s t h size
   same-remain same = inl (λ k p ne there. subst (λ u. IsThere u (vm_slot k)) (sym same) there)
 
-  -- and then the one alone changed
+  -- the same if only this block changed afterwards
   pub remain-more : (u : Store) → IsHandle h → ((slot : ℕ) → slot ≢ vm_slot h → block_at u slot ≡ block_at t slot)
       → RemainOrNoRoom s t h size → RemainOrNoRoom s u h size
   remain-more u q others (inl there) = inl (λ k p ne was. subst IsBlock (sym (others (vm_slot k) (λ e. ne (slot-one k h p q e)))) (there k p ne was))
@@ -83,7 +83,7 @@ made-remain v s t h size q made = remain-more s made.mid h size t q (made-other 
 pub not-all : {D : Type 0} (v : VmState D) (h : ℕ) → IsLowestUnlisted v h → AllListed v → ⊥
 not-all v h low all = (let some = all h low.handle in let none : is_some (held_at v h) ≡ false = ap is_some low.free in absurd cc)
 
--- the handle of a new block is one alone
+-- there is only one handle for a new block
 pub lowest-one : {D : Type 0} (v : VmState D) (h k : ℕ) → IsLowestUnlisted v h → IsLowestUnlisted v k → h ≡ k
 lowest-one v h k one other = elim (cases_lt h k) as (λ _. h ≡ k) [
   | inl less ↦ absurd (listed h one (other.lower h one.handle less))

@@ -40,7 +40,7 @@ module _ {D : Type 0} (image : D → List ℕ) (f : FileState D) (lists : Lists 
       ap (λ n. let x : Entry = record { h = e.h; uid = e.uid; len = n } in x)
       (found-long (pair_of image f).cur.blocks e.h e.len (subst (λ (d : Directory). HasBlock d e.h e.len) (sym lists.cur) has))
 
-  -- what is to be kept lists what was given
+  -- the contents to be committed list what was given
   given-listed : listed (contents_from resident (pair_of image f).cur.blocks cur) ≡ cur
   given-listed =
       ap (λ es. let d : Directory = record { entries = record { items = es }; map_block = cur.map_block; map_item = cur.map_item } in d)

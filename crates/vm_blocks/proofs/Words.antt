@@ -1,4 +1,4 @@
--- What bytes spell as a directory has words as user IDs and as its map item.
+-- A directory that bytes encode has 16-bit words as user IDs and as its map item.
 use Rattle.std.proofs.Common.{◌≡◌, ℕ, ◌<◌, List, [], ◌∷◌, ◌++◌, length, map, refl, subst, arith, Ok}
 use Rattle.std.specs.Prelude.{All}
 use Rattle.std.specs.List.{flat_map}
@@ -18,7 +18,7 @@ front xs ys all = subst AreBytes (take_at xs ys (length xs) refl) (All-take (λ 
 back : (xs ys : List ℕ) → AreBytes (xs ++ ys) → AreBytes ys
 back xs ys all = subst AreBytes (drop_at xs ys (length xs) refl) (All-drop (λ b. b < 256) (length xs) (xs ++ ys) all)
 
--- two bytes spell a word
+-- two bytes encode a word
 word-small : (w : ℕ) (rest : List ℕ) → AreBytes (word_bytes w ++ rest) → w < 65536
 word-small w rest all = let high = all 1 0 (omega arith) in omega (arith, high)
 
@@ -31,7 +31,7 @@ uids-small (b ∷ bs) all =
     All-cons (λ (e : Entry). e.uid < 65536) (entry_of b) (map entry_of bs) (uid-small b (flat_map block_spelling bs) all)
     (uids-small bs (back (block_spelling b) (flat_map block_spelling bs) all))
 
--- a directory that bytes spell
+-- a directory that bytes encode has words
 contents-words : (c : Contents) → AreBytes (contents_spelling c) → AreWords (listed c)
 contents-words c all =
     let blocks = flat_map block_spelling c.blocks in

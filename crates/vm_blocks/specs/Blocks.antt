@@ -52,7 +52,7 @@ pub record IsNextWith {D : Type 0} (v : VmState D) (start uid h : ℕ) : Type 0 
 abbrev pub NoneWith : {D : Type 0} → VmState D → ℕ → ℕ → Type 0
 NoneWith v start uid = (k : ℕ) → start < k → HasUid v uid k → ⊥
 
--- a new block became a heap without a chunk under its handle, and every other is as it was
+-- a new block became a heap without a chunk under its handle, and every other block is unchanged
 pub record BecomesHeap (old new : Store) (h : ℕ) : Type 0 where
   pub fills : Fills old new h
   pub chunks : chunks fills.bytes ≡ None ∷ None ∷ []

@@ -1,4 +1,4 @@
--- How a block comes into memory, and is locked there.
+-- How a block is loaded into memory and locked.
 use Rattle.std.specs.Prelude.{◌≡◌, ◌≢◌, ℕ, ◌+◌, ◌<◌, ◌⊎◌, List, length, None, MatchResult, Result}
 use Rattle.geos_terms.specs.Block.{handle_word}
 use Rattle.geos_terms.specs.Heap.{IsHeap}
@@ -10,7 +10,7 @@ use Rattle.vm_blocks.specs.declared.error.LockError.TheVariants.{Locked}
 use Rattle.vm_blocks.specs.View.{VmState, vm_slot}
 use Rattle.vm_blocks.specs.Room.{Goes}
 
--- a block of the file has other bytes, a heap under its handle, and every other is as it was
+-- a block of the file has other bytes, a heap under its handle, and every other block is unchanged
 pub record Fills (old new : Store) (h : ℕ) : Type 0 where
   pub bytes : List ℕ
   pub long : length bytes ≡ size_of old (vm_slot h)
@@ -18,7 +18,7 @@ pub record Fills (old new : Store) (h : ℕ) : Type 0 where
   pub heap : IsHeap bytes
   pub handle : handle_word bytes ≡ h
 
--- a block of the file is not in memory any more, and every other is as it was
+-- a block of the file is not in memory any more, and every other block is unchanged
 pub record Drops (old new : Store) (h : ℕ) : Type 0 where
   pub gone : block_at new (vm_slot h) ≡ None
   pub others : (slot : ℕ) → slot ≢ vm_slot h → block_at new slot ≡ block_at old slot
@@ -26,29 +26,29 @@ pub record Drops (old new : Store) (h : ℕ) : Type 0 where
   pub laid : IsLaidOut old → IsLaidOut new
   pub len : new.len ≡ old.len
 
--- a slot has what it had, and it lies where it lay if it is locked; or it went
+-- a slot is unchanged, and so is its place if it is locked; or its block was evicted
 abbrev pub KeptOrGoes : {D : Type 0} → VmState D → Store → Store → ℕ → ℕ → Type 0
 KeptOrGoes v old new h slot = ((block_at new slot ≡ block_at old slot) × (0 < locks_of old slot → place_of new slot ≡ place_of old slot))
     ⊎ Goes v old new h slot
 
--- every block but that of a handle is as it was, and lies where it lay if it is locked; or it was discarded
+-- every block except that of a handle is unchanged, and so is its place if it is locked; or it was evicted
 pub record Keeps {D : Type 0} (v : VmState D) (old new : Store) (h : ℕ) : Type 0 where
   pub each : (slot : ℕ) → slot ≢ vm_slot h → KeptOrGoes v old new h slot
   pub laid : IsLaidOut new
   pub len : new.len ≡ old.len
 
--- a block is in memory now, locked as often as it was, 0 times where it was not there; where it was there, nothing changed
+-- a block is in memory now, with the same lock count, or 0 if it was not there; if it was there, nothing changed
 pub record Brought (old new : Store) (h : ℕ) : Type 0 where
   pub there : IsThere new (vm_slot h)
   pub locks : locks_of new (vm_slot h) ≡ locks_of old (vm_slot h)
   pub stays : IsThere old (vm_slot h) → new ≡ old
 
--- a block was not brought: where it was in memory nothing changed, and else it is not there
+-- a block was not loaded: if it was in memory, nothing changed; otherwise it is still not in memory
 pub record NotBrought (old new : Store) (h : ℕ) : Type 0 where
   pub stays : IsThere old (vm_slot h) → new ≡ old
   pub absent : (IsThere old (vm_slot h) → ⊥) → block_at new (vm_slot h) ≡ None
 
--- a block is in memory, locked once more; where it was there, it has its bytes and its place
+-- a block is in memory and its lock count is one higher; if it was there before, it has the same bytes and place
 pub record LockedMore (old new : Store) (h : ℕ) : Type 0 where
   pub there : IsThere new (vm_slot h)
   pub locks : locks_of new (vm_slot h) ≡ locks_of old (vm_slot h) + 1

@@ -10,8 +10,8 @@ use Rattle.vm_blocks.specs.Room.{LacksRoom, RemainOrNoRoom}
 use Rattle.vm_blocks.specs.Tied.{IsTied}
 use Rattle.vm_blocks.specs.View.{VmState, held_at, vm_slot, with_device}
 
--- a call reads the device at most, within its length: it writes nothing, the pair that the file keeps is
--- the same, and it fails, on an honest device, only where the count of failures rose, which it does nowhere else
+-- a call that at most reads the device, within its length. It writes nothing, and the committed pair is unchanged.
+-- On an honest device the call fails only if the count of failures rose; the count rises only if the call fails.
 pub record ReadsDevice {D : Type 0} (medium : Medium D) (fails : Type 0) (f g : FileState D) : Type 0 where
   pub pair : pair_of medium.image g ≡ pair_of medium.image f
   pub reads : ReadsOnly medium f.device g.device
@@ -19,9 +19,9 @@ pub record ReadsDevice {D : Type 0} (medium : Medium D) (fails : Type 0) (f g : 
   pub counted : (fails → ⊥) → medium.failed g.device ≡ medium.failed f.device
   pub steadily : Steadily medium f g
 
--- a call brought a block into memory, or refused it: for want of room by the one error, and by the
--- other where the device failed. A block that is there, or is not listed, asks the device nothing;
--- no other goes for one that is not where there is room
+-- a call loads a block into memory, or fails with one error if it finds no room, and with another if the device fails.
+-- If the block is in memory or is not listed, the call does not use the device. It evicts other blocks only if it finds
+-- no room.
 pub record BringsBlock {D E : Type 0} (medium : Medium D) (room disk : E)
     (h : ℕ) (result : Result (Unit {0}) E) (v w : VmState D) (s t : Store) : Type 0 where
   pub tied : IsTied medium w t

@@ -8,14 +8,13 @@ use Rattle.vm_file.specs.Device.{Medium, Rose}
 use Rattle.vm_blocks.specs.View.{VmState}
 use Rattle.vm_blocks.specs.FileOf.{IsMemoryOf}
 
--- what came from outside at a call: an honest device gives nothing, and refuses only where it
--- failed
+-- what came from outside at a call: an honest device returns
+-- no other contents, and refuses only if a failure was counted
 pub record IsChosen {D : Type 0} (medium : Medium D) (old new : D) (choice : Choice) : Type 0 where
   pub given : medium.honest old → choice.given ≡ []
   pub device : medium.honest old → choice.device ≡ true → Rose (medium.failed old) (medium.failed new)
 
--- a call answers, and leaves memory, as its row says, in each memory of the model's that its
--- state may be
+-- a call returns, and leaves memory, as its row prescribes, in each memory of the model that is related to the state
 abbrev pub DoesRow : {D : Type 0} → Medium D → {A : Type 0} → Call A → Result A Refusal → VmState D → Store → VmState D → Store → Type 0
 DoesRow medium call result v s w t =
     (m : Memory) → IsMemoryOf medium v s m

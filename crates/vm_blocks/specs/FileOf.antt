@@ -1,6 +1,6 @@
--- How a VM file, some of its blocks in memory, is tied to the model's. The model's file is no
--- function of the state: of what lies on the device alone, a device that is not honest tells
--- nothing. So it is a witness, which goes on from call to call.
+-- How a VM file, with some of its blocks in memory, is related to the model's file. The model's file is not a function
+-- of the state: if a block is only on a device that is not honest, its contents are unknown. So the model's file is a
+-- witness that each call passes on.
 use Rattle.std.specs.Prelude.{◌≡◌, ℕ, true, false, List, length, map, take, None}
 use Rattle.geos_calls.specs.Directories.{VmBlock}
 use Rattle.geos_calls.specs.Directories as model
@@ -17,7 +17,7 @@ use Rattle.vm_blocks.specs.View.{VmState, bytes_read, held_at, vm_slot}
 use Rattle.vm_blocks.specs.Spelled.{block_in}
 use Rattle.vm_blocks.specs.Matches.{IsListedAs, IsDirectoryOf, IsPairOf, stored_pair}
 
--- the model's current directory: of each handle, what is listed; and the same maps
+-- the model's current directory lists under each handle what the file lists, and has the same maps
 pub record IsCurrentOf {D : Type 0} (image : D → List ℕ) (honest : D → Type 0) (v : VmState D) (s : Store)
     (cur : model.Directory VmBlock) : Type 0 where
   pub handles : length cur.blocks ≡ 1024
@@ -27,8 +27,7 @@ pub record IsCurrentOf {D : Type 0} (image : D → List ℕ) (honest : D → Typ
   pub map_group : cur.map_group ≡ v.map_item.0
   pub map_item : cur.map_item ≡ v.map_item.1
 
--- what the model has as kept: the pair of the area that is read; where the file is unsure, also
--- that of the other area
+-- the model's committed pair is the pair in the selected area; if the file is unsure, also the pair in the other area
 abbrev pub IsKeptOf : {D : Type 0} → (D → List ℕ) → (D → Type 0) → FileState D → Kept → Type 0
 IsKeptOf image honest f (Sure p) = (f.sure ≡ true) × IsPairOf (honest f.device) f.current f.saved (pair_of image f) p
 IsKeptOf image honest f (Unsure p q) = (f.sure ≡ false) × IsPairOf (honest f.device) f.current f.saved (pair_of image f) p
@@ -42,8 +41,9 @@ pub record IsFileOf {D : Type 0} (image : D → List ℕ) (honest : D → Type 0
   pub kept : IsKeptOf image honest v.file f.kept
   pub legal : IsFile f
 
--- the model's memory: what the slots of global memory spell, and such a file
+-- the model's memory: what the slots of global memory encode, together with such a file
 pub record IsMemoryOf {D : Type 0} (medium : Medium D) (v : VmState D) (s : Store) (m : Memory) : Type 0 where
   pub blocks : m.blocks ≡ map block_in (take 1024 s.blocks)
   pub file : IsFileOf medium.image medium.honest v s m.file
   pub region : m.region ≡ s.len.most
+  pub handles : m.handles ≡ s.len.handles

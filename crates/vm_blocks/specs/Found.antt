@@ -10,7 +10,7 @@ use Rattle.vm_blocks.specs.Matches.{stored_pair}
 abbrev pub OpensAs : model_file.Pair → List ℕ → Type 0
 OpensAs pair c = (p : Pair) × (found c ≡ Ok p) × (pair ≡ stored_pair p)
 
--- it finds what the model has as kept: its pair, or one of the two
+-- `open` finds what the model has committed: its pair, or one of the two if the file is unsure
 abbrev pub OpensAsKept : Kept → List ℕ → Type 0
 OpensAsKept (Sure p) c = OpensAs p c
 OpensAsKept (Unsure p q) c = OpensAs p c ⊎ OpensAs q c

@@ -10,7 +10,7 @@ use Rattle.vm_blocks.specs.Bring.{Keeps}
 use Rattle.vm_blocks.specs.Tied.{IsTied}
 use Rattle.vm_blocks.specs.View.{VmState, held_at, vm_slot}
 
--- the blocks of the file that are in memory are the same, but that of a handle; 0 is for no handle
+-- the blocks of the file that are in memory are the same, except that of a handle; 0 stands for no handle
 abbrev pub SameBut : Store → Store → ℕ → Type 0
 SameBut s t but = (h : ℕ) → IsHandle h → h ≢ but → block_at t (vm_slot h) ≡ block_at s (vm_slot h)
 
@@ -25,8 +25,8 @@ pub record IsMarkedHeap {D : Type 0} (v : VmState D) (s : Store) (h : ℕ) : Typ
   pub heap : IsHeap block.bytes
   pub word : handle_word block.bytes ≡ h
 
--- a block of the file has changed in memory, and is a heap under its handle; before that all were
--- tied, and every other block is as it was, or was discarded
+-- a block of the file has changed in memory, and is a heap under its handle.
+-- Before that all blocks were tied. Every other block is unchanged or evicted.
 pub record IsChanged {D : Type 0} (medium : Medium D) (v : VmState D) (s : Store) (h : ℕ) : Type 0 where
   pub before : Store
   pub tied : IsTied medium v before

@@ -16,7 +16,7 @@ use Rattle.vm_blocks.specs.Tied.{NoneResident}
 abbrev pub resident_of : Store → ℕ → Option (List ℕ)
 resident_of s h = option_map (λ (b : Block). b.bytes) (block_at s (vm_slot h))
 
--- the length of a listed block: as it is in memory, else as it is listed
+-- the length of a listed block: the length in memory if it is there, otherwise the listed length
 abbrev pub len_now : Held → Option Block → ℕ
 len_now e None = e.len
 len_now e (Some b) = length b.bytes
@@ -38,15 +38,15 @@ entries_to v s n = flat_map (entries_of v s) (range_with_len 1 n)
 abbrev pub directory_of : {D : Type 0} → VmState D → Store → Directory
 directory_of v s = record { entries = record { items = entries_to v s 1024 }; map_block = v.map_block; map_item = v.map_item }
 
--- an entry of a directory as it is held at first: not marked
+-- a directory entry as the table lists it after opening: not marked
 abbrev pub as_held : Entry → Held
 as_held e = record { uid = e.uid; len = e.len; marked = false }
 
--- what a directory has under a handle, as it is held at first
+-- what the table lists under a handle after opening a directory: the directory's entry, not marked
 abbrev pub held_in : Directory → ℕ → Option Held
 held_in d h = option_map as_held (find (λ e. e.h == h) d.entries.items)
 
--- what is listed is a directory of the device, without a mark
+-- the table lists a directory of the device, and no block is marked
 pub record IsListOf {D : Type 0} (v : VmState D) (d : Directory) : Type 0 where
   pub each : (h : ℕ) → IsHandle h → held_at v h ≡ held_in d h
   pub map_block : v.map_block ≡ d.map_block
@@ -60,7 +60,7 @@ cleaned len e = record e { len = len; marked = false }
 abbrev pub NoneLocked : Store → Type 0
 NoneLocked s = (h : ℕ) → IsHandle h → locks_of s (vm_slot h) ≡ 0
 
--- no block of the file is in memory any more, and every other block is as it was
+-- no block of the file is in memory any more, and every other block is unchanged
 pub record DropsAll (old new : Store) : Type 0 where
   pub none : NoneResident new
   pub others : (slot : ℕ) → ((h : ℕ) → IsHandle h → slot ≢ vm_slot h) → block_at new slot ≡ block_at old slot
@@ -68,7 +68,7 @@ pub record DropsAll (old new : Store) : Type 0 where
   pub laid : IsLaidOut old → IsLaidOut new
   pub len : new.len ≡ old.len
 
--- the blocks in memory after a commit: those that were there, and none of the file where it reverts
+-- the blocks in memory after a commit: as before, but after a revert none of the file
 abbrev pub StoreAfter : How → Store → Store → Type 0
 StoreAfter Update old new = new ≡ old
 StoreAfter Save old new = new ≡ old

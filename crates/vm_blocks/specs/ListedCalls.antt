@@ -6,8 +6,8 @@ use Rattle.geos_calls.specs.VmCalls.{Keeper, keep_current, keep_reverted, keep_s
 use Rattle.vm_file.specs.declared.commit.How.{How}
 use Rattle.vm_file.specs.declared.commit.How.TheVariants.{Update, Save, Revert}
 
--- makes a block or group with this user ID, marked, and locked n times: below the kernel, where
--- the user ID of groups is one as any other
+-- makes a block or group with this user ID, marked, and locked n times. At
+-- this level, below the kernel, the user ID of groups is like any other.
 abbrev pub make_listed : ℕ → ℕ → Call ℕ
 make_listed uid n = makes_listed [] uid n
 

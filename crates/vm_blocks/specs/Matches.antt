@@ -1,5 +1,5 @@
--- When blocks of the model are those that a VM file lists. `good` says that the device is
--- honest: what it gives for a block tells of the model's block only then.
+-- When blocks of the model are those that a VM file lists. `good` means that
+-- the device is honest: only then is the model's block what the device returns.
 use Rattle.std.specs.Prelude.{◌≡◌, ℕ, ◌==◌, false, List, length, map, find, Option, Some, None, option_map}
 use Rattle.std.specs.List.{range_with_len}
 use Rattle.geos_calls.specs.Blocks.{Heap}
@@ -16,26 +16,26 @@ use Rattle.vm_file.specs.State.{bytes_of_block}
 use Rattle.vm_blocks.specs.declared.entries.Held.{Held}
 use Rattle.vm_blocks.specs.Spelled.{heap_read, spelled}
 
--- a heap that is on the device alone: of this size, and what these bytes spell
+-- a heap that is only on the device: it has this size and, if the device is honest, the chunks that these bytes encode
 pub record IsHeapRead (good : Type 0) (len : ℕ) (read : List ℕ) (heap : Heap) : Type 0 where
   pub size : heap.size ≡ len
   pub same : good → heap ≡ heap_read len read
 
--- a listed block that is not in memory: not marked, not locked, and on the device alone
+-- a listed block that is not in memory: it is not marked, not locked, and only on the device
 pub record IsAway (good : Type 0) (read : List ℕ) (e : Held) (listed : VmBlock) : Type 0 where
   pub uid : listed.uid ≡ e.uid
   pub marked : listed.marked ≡ false
   pub locks : listed.block.locks ≡ 0
   pub heap : IsHeapRead good e.len read listed.block.heap
 
--- what the model lists is what is listed: as it is in memory, else as the device has it
+-- the model lists what the table lists: the block in memory if it is there, otherwise the block on the device
 abbrev pub IsListedAs : Type 0 → List ℕ → Option Held → Option store.Block → Option VmBlock → Type 0
 IsListedAs good read None b listed = listed ≡ None
 IsListedAs good read (Some e) (Some b) listed = listed ≡ Some (record { uid = e.uid; marked = e.marked; block = spelled b.locks b.bytes })
 IsListedAs good read (Some e) None None = ⊥
 IsListedAs good read (Some e) None (Some listed) = IsAway good read e listed
 
--- a block of the model as the device has it: of this user ID, with such a heap
+-- a block of the model as the device has it, with this user ID and such a heap
 pub record IsStoredBlock (good : Type 0) (read : List ℕ) (e : Entry) (kept : KeptBlock) : Type 0 where
   pub uid : kept.uid ≡ e.uid
   pub heap : IsHeapRead good e.len read kept.heap
@@ -79,7 +79,7 @@ stored_directory d blocks = record {
   map_item = d.map_item.1;
 }
 
--- what an area holds
+-- the model's directory for the contents of an area
 abbrev pub stored : Contents → model.Directory KeptBlock
 stored c = stored_directory (listed c) c.blocks
 

@@ -1,4 +1,4 @@
--- What the model has of a file that was opened, none of whose blocks is in memory.
+-- The model's file for a file that was opened, with no block in memory.
 use Rattle.std.specs.Prelude.{ℕ, ◌<◌, List, All, map, take, if◌then◌else◌}
 use Rattle.geos_calls.specs.Directories.{idle_block, with_each}
 use Rattle.geos_calls.specs.Memory.{Memory}
@@ -23,15 +23,15 @@ opened_pair image f = record {
       stored_directory f.saved (pair_of image f).saved.blocks;
 }
 
--- what the device holds: that pair or, where the file is unsure, that or the pair of the other area
+-- what the device has: the selected pair; if the file is unsure, also the pair of the other area
 abbrev pub opened_kept : {D : Type 0} → (D → List ℕ) → FileState D → Kept
 opened_kept image f = if f.sure then Sure (opened_pair image f) else Unsure (opened_pair image f) (stored_pair (other_pair image f))
 
--- the file: each block as the device holds it, neither marked nor locked
+-- the file: each block as the device has it, neither marked nor locked
 abbrev pub opened_file : {D : Type 0} → (D → List ℕ) → FileState D → VmFile
 opened_file image f = let pair = opened_pair image f in
     record { cur = with_each idle_block pair.cur; saved = pair.saved; kept = opened_kept image f; area = f.area }
 
--- memory with that file, beside what the slots of global memory spell
+-- memory with that file and with what the slots of global memory encode
 abbrev pub opened_memory : {D : Type 0} → (D → List ℕ) → FileState D → Store → Memory
-opened_memory image f s = record { blocks = map block_in (take 1024 s.blocks); file = opened_file image f; region = s.len.most }
+opened_memory image f s = record { blocks = map block_in (take 1024 s.blocks); file = opened_file image f; region = s.len.most; handles = s.len.handles }

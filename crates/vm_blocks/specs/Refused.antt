@@ -62,7 +62,7 @@ abbrev pub of_free : Result (Unit {0}) FreeError → Result (Unit {0}) Refusal
 of_free (Ok done) = Ok tt
 of_free (Err why) = Err (why_not_freed why)
 
--- the user ID of a block, where one has the handle
+-- the user ID of the block with a handle, if there is one
 abbrev pub of_uid : Option ℕ → Result ℕ Refusal
 of_uid None = Err refusal.BadHandle
 of_uid (Some uid) = Ok uid

@@ -11,12 +11,13 @@ use Rattle.vm_file.specs.State.{FileState, HasBlock}
 use Rattle.vm_blocks.specs.declared.entries.Held.{Held}
 use Rattle.vm_blocks.specs.View.{VmState, bytes_read, held_at, vm_slot}
 
--- the bytes of a block that is not marked: they are as long as is listed and, where the device is honest, those that it gives
+-- the bytes of a block that is not marked: they have the listed
+-- length and, if the device is honest, are those on the device
 pub record IsClean {D : Type 0} (medium : Medium D) (f : FileState D) (h : ℕ) (len : ℕ) (bytes : List ℕ) : Type 0 where
   pub long : length bytes ≡ len
   pub same : medium.honest f.device → bytes ≡ bytes_read medium.image f h
 
--- a block in memory: a heap under its handle; where it is not marked, the file has it, and its bytes
+-- a block in memory: a heap under its handle; if it is not marked, the file has it with the same bytes
 pub record IsResident {D : Type 0} (medium : Medium D) (f : FileState D) (h : ℕ) (e : Held) (bytes : List ℕ) : Type 0 where
   pub size : IsBlockSize e.len
   pub heap : IsHeap bytes
@@ -37,7 +38,7 @@ TiedAt medium f h None (Some b) = ⊥
 TiedAt medium f h (Some e) None = IsAbsent f h e
 TiedAt medium f h (Some e) (Some b) = IsResident medium f h e b.bytes
 
--- the map block is 0 or a block that is no group; the map item's group is 0 or a group, and the item 0 where it is 0
+-- the map block is 0 or a block that is no group; the map item's group is 0 or a group; if it is 0, so is the item
 pub record AreMapped {D : Type 0} (v : VmState D) : Type 0 where
   pub block : v.map_block ≢ 0 → IsSomeAnd (held_at v v.map_block) (λ e. e.uid ≢ group_uid)
   pub group : v.map_item.0 ≢ 0 → IsSomeAnd (held_at v v.map_item.0) (λ e. e.uid ≡ group_uid)

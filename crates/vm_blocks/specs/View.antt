@@ -6,7 +6,7 @@ use Rattle.block_handles.specs.Names.{slot_of}
 use Rattle.vm_file.specs.State.{FileState, bytes_of_block, pair_of}
 use Rattle.vm_blocks.specs.declared.entries.Held.{Held}
 
--- a file; the blocks of the current directory by handles, that of handle 1 first; and what is mapped
+-- a file; the blocks of the current directory by handles, starting with handle 1; and what is mapped
 pub record VmState (D : Type 0) : Type 0 where
   pub file : FileState D
   pub entries : List (Option Held)
@@ -29,6 +29,6 @@ with_held v h held = record v { entries = with_entry_at v.entries h held }
 abbrev pub with_device : {D : Type 0} → VmState D → D → VmState D
 with_device v device = record v { file = record v.file { device = device } }
 
--- the bytes that the device gives for the block of a handle
+-- the bytes that the device has for the block of a handle
 abbrev pub bytes_read : {D : Type 0} → (D → List ℕ) → FileState D → ℕ → List ℕ
 bytes_read image f h = bytes_of_block (pair_of image f).cur.blocks h

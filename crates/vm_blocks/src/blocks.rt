@@ -1,4 +1,4 @@
-//! VM blocks: what a value is, and what it tells.
+//! VM blocks: the value, and the functions that only read it.
 ghost use Rattle.std.specs.Prelude.{ℕ, List, ◌≡◌, IsTrue, ◌↔◌, IfOk, IfErr, IfSome, IsSomeAnd, is_some, option_map, length};
 ghost use Rattle.block_handles.specs.Layout.{IsLaidOut};
 ghost use Rattle.block_handles.specs.Names.{IsHandle};
@@ -24,8 +24,8 @@ use std::alloc::{AllocError, Global};
 use std::marker::Model;
 use vm_file::{Device, Noting, VmFile};
 
-/// The blocks of the current directory of a VM file by handles. A block is in memory where
-/// `Blocks` has one under its name; each call that moves blocks is passed them.
+/// The blocks of the current directory of a VM file by handles. A block is in memory if
+/// `Blocks` has one under its name; each call that moves blocks has `Blocks` as an argument.
 #[derive(Drop)]
 pub struct VmBlocks<D: Device + Drop> {
     pub(crate) file: VmFile<D>,
@@ -46,7 +46,7 @@ impl<D: Device + Drop> Model for VmBlocks<D> {
 }
 
 impl<D: Device + Drop> VmBlocks<D> {
-    /// The blocks of a file, none of them in memory. `AllocError` gives the file back.
+    /// The blocks of a file, none of them in memory. `AllocError` returns the file.
     pub fn new(alloc: Global, file: VmFile<D>) -> Result<VmBlocks<D>, (VmFile<D>, AllocError)>
         ensures file { IfOk result (λ v. v.file ≡ file) }
         ensures lists { IfOk result (λ v. IsListOf v file.current) }
@@ -95,7 +95,7 @@ impl<D: Device + Drop> VmBlocks<D> {
         file
     }
 
-    /// Whether the file is sure of the pair that it keeps: where it is not, it takes no commit.
+    /// Whether the file is sure of its committed pair; if it is not, it refuses commits.
     pub fn is_sure(&self) -> bool
         ensures sure { result ≡ self.now.file.sure }
         // What `open` would find after a stop now.

@@ -1,4 +1,4 @@
-//! Blocks that come into memory.
+//! Loading blocks into memory.
 ghost use Rattle.std.specs.Prelude.{◌≡◌, ◌↔◌, Some, None, Ok, Err, OnOk, OnErr};
 ghost use Rattle.block_handles.specs.Names.{IsHandle};
 ghost use Rattle.block_handles.specs.Store.{IsThere, bytes_of, locks_of, size_of};
@@ -19,8 +19,7 @@ use block_handles::Blocks;
 use geos_terms::Name;
 use vm_file::{Device, Disk, VmFile};
 
-/// Reads a block of the file straight into the region, and frees it again where the device
-/// fails.
+/// Reads a block of the file directly into the region, and frees it again if the device fails.
 fn read_into<D: Device + Drop>(
     file: &mut VmFile<D>,
     blocks: &mut Blocks,
@@ -69,12 +68,10 @@ impl<D: Device + Drop> VmBlocks<D> {
         read_into(&mut self.file, blocks, h)
     }
 
-    /// Brings a block into memory, and does not lock it: nothing changes where it is there.
-    /// `BadHandle` if none has this handle; `NoRoom` if no stretch of the region has room,
-    /// though every other block of the file that is neither marked nor locked was discarded;
-    /// `Disk` if the device fails, or gives bytes that are no heap under this handle. Then the
-    /// block is not in memory, and others may have been discarded.
-    // Cold, so that calls on blocks that are there are laid out as the usual way.
+    /// Loads a block into memory without locking it; if it is in memory, nothing changes. `BadHandle` if no block has
+    /// this handle; `NoRoom` if no stretch of the region has room, although every other idle block of the file was
+    /// evicted; `Disk` if the device fails, or returns bytes that are no heap under this handle. Then the block is not
+    /// in memory, and others may have been evicted. Cold, so that the usual path is that of calls on blocks in memory.
     #[cold]
     pub fn bring(&mut self, blocks: &mut Blocks, handle: u16) -> Result<(), BringError>
         requires { IsTied D.medium self.old blocks.old }

@@ -59,8 +59,8 @@ fn free_all(blocks: &mut Blocks)
     }
 }
 
-/// What a commit makes of the blocks in memory: where it reverts, they are not those of the
-/// current directory.
+/// The blocks in memory after a commit: a revert removes those of
+/// the file, because they are not those of the current directory.
 fn leave(blocks: &mut Blocks, how: How)
     requires { NoneLocked blocks.old }
     ensures { StoreAfter how blocks.old blocks.new }
@@ -111,14 +111,12 @@ impl<D: Device + Drop> VmBlocks<D> {
         self.map_item = current.map_item;
     }
 
-    /// Keeps one of the pairs that `How` names, of the blocks as they are now and of the saved
-    /// directory, and continues with it: no block is marked any more. Where it reverts, no block of
-    /// the file stays in memory.
+    /// Commits the pair that `How` names, of the blocks as they are now and of the saved directory, and
+    /// continues with it. No block is marked any more. If it reverts, no block of the file stays in memory.
     ///
-    /// `Unsure` if the file is unsure, `TooBig` if it is sure and the pair is longer than
-    /// the area, `Memory` if an allocation is refused: nothing has happened. `Disk` if the
-    /// device fails, or gives bytes that are no heap under their handle: blocks and marks are
-    /// as they were, and the file may be unsure.
+    /// `Unsure` if the file is unsure, `TooBig` if it is sure and the pair is longer than the area, `Memory` if an
+    /// allocation is refused: nothing has changed. `Disk` if the device fails, or returns bytes that are no heap under
+    /// their handle: blocks and marks are unchanged, and the file may be unsure.
     pub fn commit(&mut self, blocks: &mut Blocks, how: How) -> Result<(), CommitError>
         requires tied { IsTied D.medium self.old blocks.old }
         requires free { NoneLocked blocks.old }

@@ -20,13 +20,13 @@ const HANDLES: usize = Name::HANDLES as usize;
 pub struct Held {
     /// Its user ID.
     pub uid: u16,
-    /// Its length in bytes where it is not in memory; the region knows it where it is.
+    /// Its length in bytes if it is not in memory; otherwise the region has the length.
     pub len: u16,
     /// It is marked as changed: the file may have other bytes.
     pub marked: bool,
 }
 
-/// What is listed of each handle, that of handle 1 first.
+/// The listed blocks by handles, starting with handle 1.
 #[derive(Drop)]
 pub(crate) struct Table {
     entries: Vec<Option<Held>>,
@@ -95,8 +95,7 @@ impl Table {
     }
 }
 
-/// Lists the blocks of a directory by handles, none of them marked: one walk over its entries,
-/// whose handles ascend.
+/// Lists the blocks of a directory by handles, none of them marked, in one pass over its entries, whose handles ascend.
 pub(crate) fn list(table: &mut Table, directory: &Directory)
     requires long { length table.old ≡ 1024 }
     requires legal { is_directory directory.now ≡ true }

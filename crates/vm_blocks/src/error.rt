@@ -5,8 +5,7 @@ ghost use Rattle.vm_blocks.specs.Refused.{lock_error_of, why_not_brought, why_no
 use geos_terms::Refusal;
 use thiserror::Error;
 
-/// No stretch of the region has room, though every other block of the file that is neither
-/// marked nor locked was discarded.
+/// No stretch of the region has room, although every other idle block of the file was evicted.
 #[derive(Clone, Copy, Debug, Drop, PartialEq, Eq, Error)]
 #[error("no room in the region")]
 pub struct NoRoom;
@@ -20,13 +19,13 @@ pub enum BringError {
     /// No stretch of the region has room.
     #[error("no room in the region")]
     NoRoom,
-    /// The device failed, or gave bytes that are no heap under this handle.
+    /// The device failed, or returned bytes that are no heap under this handle.
     #[error("disk")]
     Disk,
 }
 
 impl BringError {
-    /// The same refusal, as the kernel says it.
+    /// The kernel's refusal for this error.
     pub fn refusal(self) -> Refusal
         ensures { result ≡ why_not_brought self }
     {
@@ -50,13 +49,13 @@ pub enum LockError {
     /// No stretch of the region has room.
     #[error("no room in the region")]
     NoRoom,
-    /// The device failed, or gave bytes that are no heap under this handle.
+    /// The device failed, or returned bytes that are no heap under this handle.
     #[error("disk")]
     Disk,
 }
 
 impl LockError {
-    /// The same refusal, as the kernel says it.
+    /// The kernel's refusal for this error.
     pub fn refusal(self) -> Refusal
         ensures { result ≡ why_not_locked self }
     {
@@ -94,7 +93,7 @@ pub enum NewError {
 }
 
 impl NewError {
-    /// The same refusal, as the kernel says it.
+    /// The kernel's refusal for this error.
     pub fn refusal(self) -> Refusal
         ensures { result ≡ why_not_made self }
     {
@@ -117,7 +116,7 @@ pub enum FreeError {
 }
 
 impl FreeError {
-    /// The same refusal, as the kernel says it.
+    /// The kernel's refusal for this error.
     pub fn refusal(self) -> Refusal
         ensures { result ≡ why_not_freed self }
     {

@@ -10,17 +10,15 @@ use crate::blocks::VmBlocks;
 use vm_file::Device;
 
 impl<D: Device + Drop> VmBlocks<D> {
-    /// Blocks of the file stay tied where other blocks change, and where one that is marked
-    /// changes and still is a heap under its handle: its count of locks, its bytes and its size
-    /// are free to.
+    /// Blocks of the file stay tied if other blocks change, and if a marked block changes and
+    /// is still a heap under its handle: its lock count, its bytes and its size may change.
     pub fn blocks_may_change(&self)
         ensures others { (s t : Store) → IsTied D.medium self.now s → IsLaidOut t → SameBut s t 0 → IsTied D.medium self.now t }
         ensures marked { (s t : Store) (h : ℕ) → IsTied D.medium self.now s → IsLaidOut t → SameBut s t h → IsMarkedHeap self.now t h
             → IsTied D.medium self.now t }
     {}
 
-    /// What those changes make of the model's memory, and of discarded blocks; and when a call may
-    /// be refused for room.
+    /// How these changes and evictions change the model's memory, and when a call may be refused for lack of room.
     pub fn memory_may_change(&self)
         ensures others { OthersMayChange D.medium self.now }
         ensures discarded { BlocksMayGo D.medium self.now }

@@ -47,10 +47,9 @@ impl<D: Device + Drop> VmBlocks<D> {
         Ok(())
     }
 
-    /// Makes a block of 64 bytes without a chunk under the lowest free handle, in memory and
-    /// marked, but not locked. `NoHandle` if all 1,024 are listed; then `NoRoom` if no
-    /// stretch of the region has room, though every block of the file that is neither marked
-    /// nor locked was discarded.
+    /// Makes a block of 64 bytes without a chunk under the lowest free handle, in memory and marked, but not locked.
+    /// `NoHandle` if all 1,024 are listed; then `NoRoom` if no stretch of the region has room, although every idle
+    /// block of the file was evicted.
     pub fn vnew_unlocked(&mut self, blocks: &mut Blocks, uid: u16) -> Result<u16, NewError>
         requires { IsTied D.medium self.old blocks.old }
         ensures tied { IsTied D.medium self.new blocks.new }
@@ -82,7 +81,7 @@ impl<D: Device + Drop> VmBlocks<D> {
         Ok(h)
     }
 
-    /// Makes such a block, and locks it once. It is refused as `vnew_unlocked` is.
+    /// Makes a block as `vnew_unlocked` does, with the same refusals, and locks it once.
     pub fn vnew(&mut self, blocks: &mut Blocks, uid: u16) -> Result<u16, NewError>
         requires { IsTied D.medium self.old blocks.old }
         ensures tied { IsTied D.medium self.new blocks.new }

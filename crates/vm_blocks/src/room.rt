@@ -1,4 +1,4 @@
-//! Room for a block: others, which can be read from the file again, are discarded for it.
+//! Room for a block: other blocks that can be read from the file again are evicted for it.
 ghost use Rattle.std.specs.Prelude.{◌≡◌, ◌≢◌, ◌+◌, ◌%◌, ◌<◌, ◌≤◌, IsTrue, IfSome, IfNone, OnOk, OnErr, true, false};
 ghost use Rattle.geos_terms.specs.Heap.{IsBlockSize, most_block_bytes};
 ghost use Rattle.block_handles.specs.Names.{IsHandle, slot_of};
@@ -23,7 +23,7 @@ fn own_handle(name: Name) -> u16
 }
 
 impl<D: Device + Drop> VmBlocks<D> {
-    /// Whether a block may be discarded.
+    /// Whether a block is idle, so that it may be evicted.
     fn is_idle(&self, blocks: &Blocks, h: u16) -> bool
         ensures idle { result ≡ is_idle self.now blocks.now h }
         ensures handle { IsTrue result → IsHandle h }
@@ -36,9 +36,8 @@ impl<D: Device + Drop> VmBlocks<D> {
         }
     }
 
-    /// The handle of the first block after the gap that may be discarded, other than `but`. So the
-    /// gap usually gets wider, and moves through the region cyclically. Visits each block at most
-    /// once.
+    /// The handle of the first idle block after the gap, other than `but`. So the gap usually
+    /// gets wider, and moves through the region cyclically. Visits each block at most once.
     fn idle_behind_gap(&self, blocks: &Blocks, but: u16) -> Option<u16>
         ensures { IfSome result (λ h. IsHandle h × (h ≢ but) × (is_idle self.now blocks.now h ≡ true)) }
     {
@@ -54,8 +53,8 @@ impl<D: Device + Drop> VmBlocks<D> {
         None
     }
 
-    /// The handle, but this, of a block that may be discarded: the first one after the gap, and
-    /// the lowest where the walk there finds none.
+    /// The handle of an idle block other than `but`: the first one
+    /// after the gap, or the lowest if there is none after the gap.
     fn first_idle(&self, blocks: &Blocks, but: u16) -> Option<u16>
         ensures found { IfSome result (λ h. IsHandle h × (h ≢ but) × (is_idle self.now blocks.now h ≡ true)) }
         ensures none { IfNone result (NoneIdle self.now blocks.now but) }
@@ -71,9 +70,8 @@ impl<D: Device + Drop> VmBlocks<D> {
         None
     }
 
-    /// Discards one block that is in memory, neither marked nor locked, and another than that of
-    /// the handle `but`, of which 0 names none; nothing else changes. `false` if there is none:
-    /// nothing has changed.
+    /// Evicts one idle block of the file, other than that of the handle `but` (0 for
+    /// none); nothing else changes. `false` if there is none: nothing has changed.
     pub fn discard_one(&self, blocks: &mut Blocks, but: u16) -> bool
         requires { IsTied D.medium self.now blocks.old }
         ensures one { IsTrue result → DiscardsOne self.now blocks.old blocks.new but }
@@ -90,8 +88,8 @@ impl<D: Device + Drop> VmBlocks<D> {
         }
     }
 
-    /// Discards blocks, but the named one, which is to have `more` bytes, while fewer are free. To
-    /// look for room then would be in vain.
+    /// Evicts blocks, but not the named one, which is to have `more` bytes,
+    /// while fewer are free. Before that no search for room can succeed.
     fn discard_for(&self, blocks: &mut Blocks, name: Name, more: u32)
         requires tied { IsTied D.medium self.now blocks.old }
         requires handle { IsHandle name.h }
@@ -102,9 +100,8 @@ impl<D: Device + Drop> VmBlocks<D> {
         while blocks.lacks(more) && self.discard_one(blocks, but) {}
     }
 
-    /// Makes a block of `size` zero bytes, not locked, under a name that is not in use, and
-    /// discards others for it, one after another, until there is room: none if there is room
-    /// at once. `NoRoom` if there is none though all that may be were discarded.
+    /// Makes a block of `size` zero bytes, not locked, under an unused name. While there is no room, it evicts
+    /// other blocks, one after another. `NoRoom` if there is none although all idle blocks were evicted.
     pub fn make_room(&self, blocks: &mut Blocks, name: Name, size: u32) -> Result<(), NoRoom>
         requires tied { IsTied D.medium self.now blocks.old }
         requires handle { IsHandle name.h }
@@ -127,9 +124,8 @@ impl<D: Device + Drop> VmBlocks<D> {
         }
     }
 
-    /// Grows a block to `size` bytes, zeros after its own, and discards others for it, one after
-    /// another, until there is room: none if there is room at once. `NoRoom` if there is
-    /// none though all that may be were discarded.
+    /// Grows a block to `size` bytes, with zeros after its own. While there is no room, it evicts other
+    /// blocks, one after another. `NoRoom` if there is none although all idle blocks were evicted.
     pub fn grow_room(&self, blocks: &mut Blocks, name: Name, size: u32) -> Result<(), NoRoom>
         requires tied { IsTied D.medium self.now blocks.old }
         requires there { IsThere blocks.old (slot_of name) }

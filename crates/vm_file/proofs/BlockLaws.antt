@@ -1,4 +1,4 @@
--- Where the bytes of a block stand.
+-- Where the bytes of a block lie.
 use Rattle.std.proofs.Common.{◌≡◌, ℕ, ◌+◌, ◌-◌, ◌≤◌, Bool, true, false, ◌&&◌, cond, List, [], ◌∷◌, length, take, drop, Some, refl, ap, sym, ◌∙◌, subst, arith}
 use Rattle.std.specs.Prelude.{IsSomeAnd}
 use Rattle.std.specs.List.{find, list_all}
@@ -19,7 +19,7 @@ use Rattle.geos_terms.proofs.HeapTests.{both, heap-sound}
 use Rattle.vm_file.proofs.Lengths.{drop-stretch, take-stretch}
 use Rattle.vm_file.proofs.ReadLaws.{pair_ok}
 
--- the block that is found is the one whose bytes stand there
+-- the block that is found has the bytes at its place
 pub block_there : (es : List Entry) (xs : List ℕ) (h len : ℕ) → IsSomeAnd (find (λ e. eqb e.h h) es) (λ e. e.len ≡ len) →
     (bytes_of_block (blocks_in es xs) h ≡ part xs (place_in es h) len) × (place_in es h + len ≤ entries_length es)
 block_there [] xs h len is = absurd is

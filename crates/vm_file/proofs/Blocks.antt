@@ -27,7 +27,7 @@ shown_none None is = refl
 pub some_length : (e : Entry) (o : Option (List ℕ)) (ws : List ℕ) → o ≡ Some ws → IfSome o (λ bytes. length bytes ≡ e.len) → length ws ≡ e.len
 some_length e o ws is long = (let P : Option (List ℕ) → Type 0 = λ x. IfSome x (λ bytes. length bytes ≡ e.len) in subst P is long)
 
--- an entry and, behind it, as many bytes as it says are a block
+-- an entry followed by as many bytes as it lists is a block
 pub block_appended : (e : Entry) (bytes ws old mid new : List ℕ) → bytes ≡ ws → length ws ≡ e.len
     → mid ≡ old ++ (word_bytes e.h ++ word_bytes e.uid ++ word_bytes e.len) → new ≡ mid ++ ws →
     new ≡ old ++ block_spelling (let b : Block = record { h = e.h; uid = e.uid; bytes = bytes } in b)
@@ -39,7 +39,7 @@ block_appended e bytes ws old mid new is long head body =
     append_assoc old words ws in
     subst P (sym is) (body ∙ ap (λ xs. xs ++ ws) (subst H (sym long) head) ∙ spelled)
 
--- the count, the blocks and the maps behind what was there are a directory
+-- the count, the blocks and the maps, appended to what was there, are a directory
 pub contents_appended : (c : Contents) (n : ℕ) (old one two new : List ℕ) → n ≡ length c.blocks → one ≡ old ++ word_bytes n
     → two ≡ one ++ flat_map block_spelling c.blocks →
     new ≡ two ++ (word_bytes c.map_block ++ word_bytes c.map_item.0 ++ word_bytes c.map_item.1) → new ≡ old ++ contents_spelling c
@@ -68,7 +68,7 @@ pub entry_fits : (es : List Entry) (i : ℕ) (d : Entry) → i < length es → e
 entry_fits es i d h = omega (arith, entries_length-more es i d h, entries_length-take (i + 1) es)
 
 module _ (f : Entry → Block) where
-  -- one more block behind those that are written
+  -- one more block after those that are written
   spelled_more : (es : List Entry) (i : ℕ) (d : Entry) → i < length es
       → flat_map block_spelling (map f (take (suc i) es)) ≡ flat_map block_spelling (map f (take i es)) ++ block_spelling (f (get_or es i d))
   spelled_more [] i d h = absurd (omega arith)

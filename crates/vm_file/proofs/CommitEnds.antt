@@ -15,7 +15,7 @@ use Rattle.vm_file.proofs.Kept.{cut_is, finds_same, found_before, kept_alike, ke
 use Rattle.vm_file.proofs.Moments.{weaker, goes_on, at_any_moment}
 use Rattle.vm_file.proofs.StateLaws.{steadily_read, steadily_then}
 
--- where nothing happened, the file is as it was, and keeps what it kept
+-- if nothing happened, the file is unchanged, and so is what it has committed
 after_nothing : {D : Type 0} (e : CommitError) (f : FileState D) → IsAfter e f f
 after_nothing Unsure f = refl
 after_nothing TooBig f = refl
@@ -78,7 +78,7 @@ module _ {D : Type 0} (medium : Medium D) (how : How) (resident : ℕ → Option
       memory_first = not_begun Memory (λ is. absurd cc) ((λ is. absurd cc), (λ is. absurd cc))
           ((λ is. absurd cc), (λ both. let big = both.1 in absurd (omega arith)))
 
-      -- what it needs is read: the file is as it was, but for its device
+      -- what the commit needs was read: only the file's device has changed
       module _ (mid : FileState D) {T E : Type 0} (outcome : Result T E) (r : ReadsFile medium old mid outcome) where
         abbrev reads : ReadsOnly medium old.device mid.device
         reads = r.read.only
@@ -86,7 +86,7 @@ module _ {D : Type 0} (medium : Medium D) (how : How) (resident : ℕ → Option
         abbrev pub after : Pair
         after = kept_after medium.image resident how cur old
 
-        -- what is found then is what the file kept
+        -- `open` then finds what the file had committed
         reads_find : (new : FileState D) → medium.honest old.device → Passes medium.may_have_left old.device mid.device
             (FindsEither medium.image old new)
         reads_find new h = weaker medium.may_have_left old.device mid.device _ _ (λ x l. inl (finds h x l)) (reads.time h)

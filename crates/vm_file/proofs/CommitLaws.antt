@@ -38,7 +38,7 @@ area_kept old new area b t = elim (areas_apart area b).1 [
 area_behind : (old new : List ℕ) (area : ℕ) (b : Bool) → Touched 512 1 old new → area_of new area b ≡ area_of old area b
 area_behind old new area b t = part_behind new old 513 (base_of area b) area (areas_apart area b).0 t.behind
 
--- what was written stands in front of the area
+-- the bytes that were written begin the area
 part_written : (xs ws : List ℕ) (at m : ℕ) → length ws ≤ m → at + length ws ≤ length xs
     → part (with_part xs at ws) at m ≡ ws ++ take (m - length ws) (drop (at + length ws) xs)
 part_written xs ws at m small fits =
@@ -65,7 +65,7 @@ pair_cut x y q bytes rest at spells =
           ∙ ap (λ d. pair_in (listed q.cur) d (bytes ++ rest)) (sym spells.saved_listed) ∙ cut,
     )
 
--- two legal directories that are spelled in turn
+-- the encodings of two legal directories, one after the other
 pub spells_pair : (x y : Directory) (a b : Contents) (bytes : List ℕ) → bytes ≡ contents_spelling a ++ contents_spelling b
     → IsContentsOf x a → IsContentsOf y b → Spells x y (let q : Pair = record { cur = a; saved = b } in q) bytes
 spells_pair x y a b bytes is one two = record {
@@ -342,7 +342,7 @@ module _ {D : Type 0} (medium : Medium D) (f : FileState D) (sound : IsSound med
           finds = (λ h c l. finds medium selected (selected_holds h) c l);
         }
 
--- an area begins at most so far behind
+-- an area begins at most at this offset
 base_most : (area : ℕ) (b : Bool) → base_of area b ≤ 1024 + area
 base_most area true = omega arith
 base_most area false = omega arith

@@ -40,7 +40,7 @@ legal_from d legal =
 pub legal_to : (d : Directory) → IsLegal d → is_directory d ≡ true
 legal_to d legal = and-true _ _ (and-true _ _ (and-true _ _ legal.entries legal.maps.0) legal.maps.1) legal.maps.2
 
--- an entry behind one with this handle
+-- an entry after an entry with this handle
 pub record IsBehind (last : ℕ) (e : Entry) : Type 0 where
   pub above : last < e.h
   pub most : e.h ≤ 1024
@@ -91,7 +91,7 @@ find_behind h (e ∷ front) es none = ap (λ b. cond b (Some e) (find (λ x. eqb
 pub find_here : (e : Entry) (es : List Entry) → find (λ x. eqb x.h e.h) (e ∷ es) ≡ Some e
 find_here e es = ap (λ b. cond b (Some e) (find (λ x. eqb x.h e.h) es)) (eq-eqb e.h e.h refl)
 
--- entries behind one with a higher handle have another
+-- entries after an entry with a higher handle have other handles
 pub none_below : (es : List Entry) (last h : ℕ) → are_entries last es ≡ true → h ≤ last → HasNone h es
 none_below [] last h legal low = tt
 none_below (e ∷ es) last h legal low =
@@ -99,7 +99,7 @@ none_below (e ∷ es) last h legal low =
     let above = (behind_from last e s.0).above in
     ((λ q. omega (arith, above, low, q)), none_below es e.h h s.1 (omega (arith, above, low)))
 
--- the bytes of a block that is listed: those that are resident, or those that were kept
+-- the bytes of a listed block: the resident bytes if there are any, otherwise the committed ones
 pub bytes_found : (resident : ℕ → Option (List ℕ)) (kept : List Block) (es : List Entry) (h : ℕ) (e : Entry) → find (λ x. eqb x.h h) es ≡ Some e →
     bytes_of_block (map (block_from resident kept) es) h ≡ unwrap_or (resident h) (bytes_of_block kept h)
 bytes_found resident kept [] h e found = absurd cc
@@ -120,7 +120,7 @@ abbrev pub last_handle : ℕ → List Entry → ℕ
 last_handle last [] = last
 last_handle last (e ∷ entries) = last_handle e.h entries
 
--- entries go on behind the last one
+-- further entries after the last one
 pub entries_append : (es more : List Entry) (last : ℕ) → are_entries last es ≡ true → are_entries (last_handle last es) more ≡ true
     → are_entries last (es ++ more) ≡ true
 entries_append [] more last legal behind = behind

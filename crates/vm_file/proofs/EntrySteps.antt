@@ -13,7 +13,7 @@ use Rattle.vm_file.proofs.Lengths.{stretch, drop-stretch}
 use Rattle.vm_file.proofs.SpellLaws.{goes}
 use Rattle.vm_file.proofs.ReadSteps.{with_front, blocks_more, blocks_stop, stops}
 
--- what was read so far, in front of what is read from here on
+-- reading all entries returns what was read so far, followed by what is read from here on
 abbrev pub Told : List ℕ → ℕ → ℕ → ℕ → ℕ → ℕ → ℕ → List Entry → Type 0
 Told image at end count counter last from items =
     (front : List Block) × (map entry_of front ≡ items)

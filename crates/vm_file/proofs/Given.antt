@@ -53,7 +53,7 @@ module _ {D : Type 0} (medium : Medium D) where
       → CausesNoBlock medium h at old new bytes result → CausesNoBlock medium h place old new bytes result
   why_at h at place old new bytes result is = subst (λ k. CausesNoBlock medium h k old new bytes result) is
 
-  -- one read alone
+  -- the same for a single read
   pub why_one : {X E : Type 0} (h n at : ℕ) (old new : D) (bytes : List ℕ) (result : Result X E) → length bytes ≡ n
       → CausesNoBlock medium h at old new bytes result → CausesNoBlocks medium (IsOfBlock h n) old new result
   why_one h n at old new bytes result long = on_err_weaker result (⊎_elim (λ rose. inl rose) (λ gave. inr (record {

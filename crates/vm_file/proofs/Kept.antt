@@ -75,7 +75,7 @@ module _ {D : Type 0} (image : D → List ℕ) where
       ⊎ ((q : Pair) × (pair_at (base_of f.area (not f.second)) (area_of xs f.area (not f.second)) ≡ Ok q) × (found c ≡ Ok q))) in
       subst P (sym same) (subst Q (sym alike) found_it)
 
-  -- and the other way round
+  -- the converse
   pub found_before : (f m : FileState D) (c : List ℕ)
       → m ≡ (let g : FileState D = record {
         device = m.device;
@@ -156,7 +156,7 @@ module _ {D : Type 0} (image : D → List ℕ) where
       (AfterWrite 512 1 (AfterWrite (base_of f.area (not f.second)) f.area (λ d. d ≡ xs)) c) in
       subst Q alike (subst P same written)
 
-  -- what the file keeps is told by the same
+  -- the same holds for what the file has committed
   pub kept_alike : (f m : FileState D)
       → m ≡ (let g : FileState D = record {
         device = m.device;

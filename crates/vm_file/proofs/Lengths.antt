@@ -24,7 +24,7 @@ pub last_handle-push : (last : ℕ) (es : List Entry) (e : Entry) → last_handl
 last_handle-push last [] e = refl
 last_handle-push last (x ∷ es) e = last_handle-push x.h es e
 
--- one more entry behind entries in ascending order
+-- one more entry after entries in ascending order
 pub are_entries-push : (last : ℕ) (es : List Entry) (e : Entry) → are_entries last es ≡ true → is_entry (last_handle last es) e ≡ true
     → are_entries last (es ++ e ∷ []) ≡ true
 are_entries-push last [] e h l = and-true _ _ l refl

@@ -1,4 +1,4 @@
--- How a run of device calls goes on, and what a stop at some moment of it leaves.
+-- How runs of device calls compose, and what a stop at some moment of them leaves.
 use Rattle.std.proofs.Common.{◌≡◌, ◌+◌, ◌-◌, ◌^◌, inl, inr, ⊎_elim, ℕ, List, Result, Ok, refl, ◌∙◌, subst, arith}
 use Rattle.std.proofs.lemmas.Bool.{cases_lt}
 use Rattle.std.proofs.lemmas.Result.{on_ok_weaker}

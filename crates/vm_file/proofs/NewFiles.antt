@@ -30,7 +30,7 @@ header_again area legal =
     let number : (area % 256 + 256 * (area / 256 % 256)) + 65536 * (area / 65536 % 256 + 256 * (area / 16777216)) ≡ area = omega arith in
     goes _ area _ _ (wanted_is 8 is_area _ area (ap (λ n. let r : Result ℕ ℕ = Ok n in r) number) legal) refl
 
--- the file that the bytes of a new file spell, whatever follows
+-- the file that the bytes of a new file encode, whatever follows them
 pub new_parts : (image : List ℕ) (area : ℕ) → is_area area ≡ true → 1024 + 2 * area ≤ length image
     → FileParts (with_part image 0 (new_file area)) (let f : File = record { area = area; second = false; pair = empty_pair } in f)
 new_parts image area legal room =

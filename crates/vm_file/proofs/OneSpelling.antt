@@ -39,7 +39,7 @@ front_word (a ∷ b ∷ bytes) each long =
     let two : (a + 256 * b) / 256 ≡ b = omega (arith, low) in
     ap (λ x. x ∷ b ∷ []) (sym one) ∙ ap (λ y. (a + 256 * b) % 256 ∷ y ∷ []) (sym two)
 
--- a word further behind
+-- a word at a later offset
 word_behind : (k : ℕ) (b : ℕ) (bytes : List ℕ) → word (b ∷ bytes) (suc k) ≡ word bytes k
 unfolding word
 word_behind k b bytes = let e : suc k + 1 ≡ suc (k + 1) = omega arith in ap (λ i. get_or bytes k 0 + 256 * get_or (b ∷ bytes) i 0) e

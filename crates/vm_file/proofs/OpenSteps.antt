@@ -27,7 +27,7 @@ pair_stop_first base xs (BadFile f) is = stops _ _ f is
 pair_stop_first base xs Disk is = tt
 pair_stop_first base xs Memory is = tt
 
--- behind the first directory
+-- reading a pair continues after the first directory
 behind : (base : ℕ) (xs : List ℕ) (d : Directory) (r : Result Contents ℕ) (y : Result Pair ℕ) → contents_at base xs ≡ r
     → IsOkAnd r (λ c. listed c ≡ d) →
     ((c : Contents) → listed c ≡ d

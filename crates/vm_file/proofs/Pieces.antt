@@ -1,4 +1,4 @@
--- Bytes that stand on a device already, and a write of the others alone.
+-- A write of only those bytes that the device does not have yet.
 use Rattle.std.proofs.Common.{◌≡◌, ℕ, zero, suc, ◌+◌, ◌-◌, ◌≤◌, inl, inr, List, [], ◌∷◌, ◌++◌, length, take, drop, refl, ap, sym, ◌∙◌, subst, arith, length-take, length-drop}
 use Rattle.std.proofs.Math.Seq.{drop-drop, take-add}
 use Rattle.std.proofs.lemmas.List.{take-take, take-append-drop, take_all}
@@ -21,14 +21,14 @@ both_parts image bytes p q i j k m n q_is j_is n_is first second =
 piece_long : (bytes : List ℕ) (n k : ℕ) → n + k ≤ length bytes → length (take k (drop n bytes)) ≡ k
 piece_long bytes n k fits = length-take k (drop n bytes) ∙ omega (arith, length-drop n bytes)
 
--- one more piece stands at the front
+-- the device has one more piece at the front
 pub front_more : (image bytes : List ℕ) (at n m : ℕ) → n ≤ m → m ≤ length bytes → part image at n ≡ take n bytes
     → part image (at + n) (length (take (m - n) (drop n bytes))) ≡ take (m - n) (drop n bytes) → part image at m ≡ take m bytes
 front_more image bytes at n m le fits front piece =
     let there = ap (part image (at + n)) (sym (piece_long bytes n (m - n) (omega arith))) ∙ piece in
     both_parts image bytes at (at + n) 0 n (m - n) n m refl (omega arith) (omega arith) front there
 
--- one more piece stands at the end
+-- the device has one more piece at the end
 pub end_more : (image bytes : List ℕ) (at n m : ℕ) → m ≤ n → n ≤ length bytes
     → part image (at + m) (length (take (n - m) (drop m bytes))) ≡ take (n - m) (drop m bytes)
     → part image (at + n) (length bytes - n) ≡ drop n bytes → part image (at + m) (length bytes - m) ≡ drop m bytes
@@ -39,7 +39,7 @@ end_more image bytes at n m le fits piece rest =
     both_parts image bytes (at + m) (at + n) m n (length bytes - n) (n - m) (length bytes - m) (omega arith) (omega arith) (omega arith) there
     (rest ∙ sym (whole n)) ∙ whole m
 
--- a write where the first bytes stand already
+-- a write, if the device has the first bytes already
 with_front : (image : List ℕ) (at p : ℕ) (xs ws : List ℕ) → p ≡ at + length xs → part image at (length xs) ≡ xs
     → with_part image p ws ≡ with_part image at (xs ++ ws)
 with_front [] at p xs ws e s = refl
@@ -53,7 +53,7 @@ with_front (b ∷ image) zero (suc p) (x ∷ xs) ws e s =
 with_front (b ∷ image) (suc at) zero xs ws e s = absurd (omega arith)
 with_front (b ∷ image) (suc at) (suc p) xs ws e s = ap (λ l. b ∷ l) (with_front image at p xs ws (omega arith) s)
 
--- a write of what stands there already
+-- a write of what the device has already
 part_back : (image : List ℕ) (at : ℕ) (ws : List ℕ) → part image at (length ws) ≡ ws → with_part image at ws ≡ image
 part_back [] at ws s = refl
 part_back (b ∷ image) zero [] s = refl
@@ -63,7 +63,7 @@ part_back (b ∷ image) zero (w ∷ ws) s =
     ap (λ z. z ∷ with_part image zero ws) head ∙ ap (λ l. b ∷ l) (part_back image zero ws tail)
 part_back (b ∷ image) (suc at) ws s = ap (λ l. b ∷ l) (part_back image at ws s)
 
--- a write where the last bytes stand already
+-- a write, if the device has the last bytes already
 with_end : (image : List ℕ) (at p : ℕ) (ws ys : List ℕ) → p ≡ at + length ws → part image p (length ys) ≡ ys
     → with_part image at ws ≡ with_part image at (ws ++ ys)
 with_end [] at p ws ys e s = refl

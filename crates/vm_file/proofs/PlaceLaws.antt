@@ -58,7 +58,7 @@ module _ (es : List Entry) (i place : ℕ) (places : List ℕ) (d : Entry) (smal
   first : drop i es ≡ here ∷ drop (i + 1) es
   first = drop_more es i d small
 
-  -- the entry takes no more than stands before its end
+  -- the entry is not longer than the offset at which it ends
   pub places-fit : 6 + here.len ≤ place
   places-fit = (let a = ap entries_length first in let b = entries_length-drop es i in let c = p.begins in omega (arith, a, b, c))
 

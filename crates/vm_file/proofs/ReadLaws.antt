@@ -1,4 +1,4 @@
--- Reading that did not fail: what was read, and where it stands.
+-- Reading that did not fail: what was read, and where it lies.
 use Rattle.std.proofs.Common.{◌≡◌, ℕ, zero, suc, ◌+◌, ◌%◌, ◌<◌, ◌≤◌, Bool, true, false, ◌&&◌, cond, List, [], ◌∷◌, length, take, drop, map, Result, Ok, Err, refl, ap, sym, ◌∙◌, subst, arith, length-take, length-drop}
 use Rattle.std.specs.List.{list_all}
 use Rattle.std.proofs.Math.Dec.{leb, ltb, eqb}
@@ -22,7 +22,7 @@ done x = Ok x
 pub ok_is : {A : Type 0} (x y : A) → done x ≡ done y → x ≡ y
 ok_is x y e = cc
 
--- what follows from the value of a step, and from what the steps behind it gave, follows
+-- to use the result of two steps, use the value of the first and the result of the second
 pub after : {A B C : Type 0} (r : Result A ℕ) (f : A → Result B ℕ) (y : B) → (r >>= f) ≡ Ok y → ((x : A) → r ≡ Ok x → f x ≡ Ok y → C) → C
 after (Ok x) f y e then = then x refl e
 after (Err at) f y e then = absurd cc
@@ -75,7 +75,7 @@ bytes_ok e at bytes block is =
     let P : List ℕ → Type 0 = λ x. is_heap x && eqb (handle_word x) e.h ≡ true in
     (leb-le _ _ h2.0, subst P c.1 (and-true _ _ h2.1 h1.1), c.1)
 
--- a block that was read: how it is listed, and where its bytes stand
+-- a block that was read: its entry, and where its bytes lie
 pub record ReadBlock (last : ℕ) (bytes : List ℕ) (b : Block) : Type 0 where
   pub entry : is_entry last (entry_of b) ≡ true
   pub filled : is_filled b ≡ true

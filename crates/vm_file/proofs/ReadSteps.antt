@@ -105,7 +105,7 @@ block_good last at xs e is long heap handle =
     let P : Result Block ℕ → Type 0 = λ r. IsOkAnd r (λ b. entry_of b ≡ e) in
     subst P (sym read) (ap (λ l. let x : Entry = record { h = e.h; uid = e.uid; len = l } in x) n)
 
--- what was read before, in front of what is read
+-- the blocks that were read before, followed by those that are read
 abbrev pub with_front : List Block → Result (List Block) ℕ → Result (List Block) ℕ
 with_front front (Ok bs) = Ok (front ++ bs)
 with_front front (Err at) = Err at

@@ -169,7 +169,7 @@ module _ {D : Type 0} (medium : Medium D) (f : FileState D) (sound : IsSound med
       let e = get_or es k d in
       saved_lies medium f sound e.h e.len (at + place_in es e.h) (own_there f.saved saved_entries k d l) (ap (λ n. n + place_in es e.h) is)
 
-  -- the saved directory is read from where it stands
+  -- the saved directory is read from its place
   pub saved_contents : (at : ℕ) → at ≡ base_of f.area f.second + directory_length f.current + 2
       → contents_read nothing (medium.image f.device) at f.saved.entries.items f.saved ≡ (pair_of medium.image f).saved
   saved_contents at is =

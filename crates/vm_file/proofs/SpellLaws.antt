@@ -1,4 +1,4 @@
--- What is spelled is read again, whatever follows it.
+-- What is encoded is read back, whatever follows it.
 use Rattle.std.proofs.Common.{◌≡◌, ℕ, zero, suc, ◌+◌, ◌*◌, ◌/◌, ◌%◌, ◌<◌, ◌≤◌, Bool, true, ◌&&◌, cond, List, [], ◌∷◌, ◌++◌, length, take, drop, map, Result, Ok, Err, refl, ap, ◌∙◌, arith, length-append, append_assoc}
 use Rattle.std.specs.List.{list_all, flat_map}
 use Rattle.std.proofs.Math.Dec.{leb, ltb, eqb}
@@ -15,7 +15,7 @@ use Rattle.vm_file.specs.Reading.{◌>>=◌, wanted, word_at, head_at, bytes_at,
 use Rattle.geos_terms.proofs.HeapTests.{both, and-true, le-leb, lt-ltb}
 use Rattle.vm_file.proofs.ReadLaws.{leb-le}
 
--- reading goes on
+-- reading continues after a step that succeeded
 pub goes : {A B : Type 0} (r : Result A ℕ) (x : A) (f : A → Result B ℕ) (y : Result B ℕ) → r ≡ Ok x → f x ≡ y → (r >>= f) ≡ y
 goes (Ok z) x f y e h = let same : z ≡ x = cc in ap f same ∙ h
 goes (Err at) x f y e h = absurd cc

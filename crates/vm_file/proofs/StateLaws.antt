@@ -1,4 +1,4 @@
--- Files that are open: what `open` finds, and where blocks stand.
+-- Open files: what `open` finds, and where blocks lie.
 use Rattle.std.proofs.Common.{◌≡◌, ℕ, ◌<◌, Bool, true, false, not, cond, List, length, take, get_or, Result, Ok, Err, refl, ap, sym, ◌∙◌, subst, arith}
 use Rattle.std.specs.Prelude.{IsOkAnd, MatchBool}
 use Rattle.std.proofs.Math.Dec.{ltb}
@@ -157,7 +157,7 @@ module _ {D : Type 0} (medium : Medium D) where
       → IsSound medium (let g : FileState D = record { device = new; area = f.area; second = f.second; sure = f.sure; current = f.current; saved = f.saved } in g)
   read_sound f new sound reads = rests_sound f new sound (record { same = reads.same; stays = reads.stays; was = reads.was; stop = reads.stop })
 
-  -- a file of which a call read the device, and one of which another did behind it
+  -- a file after a call that read the device, and after one more such call
   module _ {T E : Type 0} (result : Result T E) where
     pub read_file : (f old : FileState D) (new : D) → f ≡ old → ReadsToFailure medium f.device new result →
         ReadsFile medium old (let g : FileState D = record {

@@ -10,7 +10,7 @@ use Rattle.vm_file.specs.State.{FileState, Holds, Finds, IsOther, pair_of}
 use Rattle.vm_file.proofs.SpellLaws.{goes}
 use Rattle.vm_file.proofs.StateLaws.{FileParts, file_from}
 
--- the parts of lists that are alike before or behind a place
+-- the parts of lists that are equal before or after an offset
 part_take : (c : List ℕ) (at p n : ℕ) → p + n ≤ at → part (take at c) p n ≡ part c p n
 part_take c zero zero zero h = refl
 part_take c zero zero (suc n) h = absurd (omega arith)
@@ -28,13 +28,13 @@ part_behind c d m p n h e =
     let k : m + (p - m) ≡ p = omega arith in
     subst (λ q. part c q n ≡ part d q n) k (ap (take n) (sym (drop-drop (p - m) m c) ∙ ap (drop (p - m)) e ∙ drop-drop (p - m) m d))
 
--- the two areas lie apart, behind the selector
+-- the two areas do not overlap, and lie after the selector
 pub areas_apart : (area : ℕ) (b : Bool) → (513 ≤ base_of area b)
     × ((base_of area b + area ≤ base_of area (not b)) ⊎ (base_of area (not b) + area ≤ base_of area b))
 areas_apart area true = (omega arith, inr (omega arith))
 areas_apart area false = (omega arith, inl (omega arith))
 
--- a write behind the first 513 bytes leaves header and selector
+-- a write after the first 513 bytes does not change the header and the selector
 pub header_kept : (c d : List ℕ) (at n : ℕ) → 513 ≤ at → Touched at n d c → (take 512 c ≡ take 512 d) × (get_or c 512 0 ≡ get_or d 512 0)
 header_kept c d at n far t = (
   sym (take-take 512 at c (omega arith)) ∙ ap (take 512) t.before ∙ take-take 512 at d (omega arith),

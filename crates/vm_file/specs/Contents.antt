@@ -1,4 +1,4 @@
--- What an area holds: two directories with the bytes of their blocks.
+-- The contents of an area: two directories with the bytes of their blocks.
 use Rattle.std.specs.Prelude.{ℕ, ◌+◌, Bool, ◌&&◌, ◌==◌, List, [], ◌∷◌, ◌++◌, length, map, drop}
 use Rattle.std.specs.List.{flat_map, list_all}
 use Rattle.lmem_raw.specs.Bytes.{part}
@@ -69,10 +69,10 @@ abbrev pub blocks_in : List Entry → List ℕ → List Block
 blocks_in [] bytes = []
 blocks_in (e ∷ entries) bytes = record { h = e.h; uid = e.uid; bytes = part bytes 6 e.len } ∷ blocks_in entries (drop (6 + e.len) bytes)
 
--- a directory that stands at the front of these bytes, with the bytes of its blocks
+-- a directory that lies at the start of these bytes, with the bytes of its blocks
 abbrev pub contents_in : Directory → List ℕ → Contents
 contents_in d bytes = record { blocks = blocks_in d.entries.items (drop 2 bytes); map_block = d.map_block; map_item = d.map_item }
 
--- a current and a saved directory that stand there, with the bytes of their blocks
+-- a current and a saved directory at the start of these bytes, with the bytes of their blocks
 abbrev pub pair_in : Directory → Directory → List ℕ → Pair
 pair_in cur saved bytes = record { cur = contents_in cur bytes; saved = contents_in saved (drop (directory_length cur) bytes) }

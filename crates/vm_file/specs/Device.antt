@@ -2,9 +2,9 @@
 use Rattle.std.specs.Prelude.{◌≡◌, ◌⊎◌, ℕ, ◌+◌, ◌-◌, ◌^◌, ◌<◌, ◌≤◌, min, List, length, take, drop, Result, OnOk, OnErr}
 use Rattle.vm_file.specs.declared.device.Disk.{Disk}
 
--- what reads of a device give at a state of it, and what a stop leaves of it: an image, a list of bytes
+-- what reads of a device return in a state, and what a stop may leave: an image, a list of bytes
 pub record Medium (D : Type 0) : Type 1 where
-  -- the bytes that reads give
+  -- the bytes that reads return
   pub image : D → List ℕ
   -- it returns what was last written to it, all its life
   pub honest : D → Type 0
@@ -14,7 +14,8 @@ pub record Medium (D : Type 0) : Type 1 where
   pub may_leave : D → List ℕ → Type 0
   -- a stop at some moment from the first state to the second may have left this image
   pub may_have_left : D → D → List ℕ → Type 0
-  -- one call takes the first state to the second: a read from an offset on, with what it gives and answers
+  -- one call takes the first state to the second: a read from
+  -- an offset on, with the bytes and the result that it returns
   pub reads : D → ℕ → List ℕ → Result (Unit {0}) Disk → D → Type 0
   -- a write of these bytes from an offset on
   pub writes : D → ℕ → List ℕ → Result (Unit {0}) Disk → D → Type 0
@@ -68,6 +69,6 @@ pub record IsSteady {D : Type 0} (medium : Medium D) : Type 0 where
       medium.writes old at bytes result new → at + length bytes ≤ length (medium.image old) → OnErr result ⊥
   pub syncs : (old new : D) (result : Result (Unit {0}) Disk) → medium.syncs old result new → OnErr result ⊥
 
--- such a device did not fail from the one state to the other: its count of failures is the same
+-- the device did not fail between two states: its count of failures is unchanged
 abbrev pub NoneFails : {D : Type 0} → Medium D → D → D → Type 0
 NoneFails medium old new = IsSteady medium → medium.failed new ≡ medium.failed old

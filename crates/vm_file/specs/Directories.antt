@@ -18,11 +18,11 @@ has_block entries h = list_any (λ e. (e.h == h) && not (e.uid == group_uid)) en
 abbrev pub has_group : List Entry → ℕ → Bool
 has_group entries h = list_any (λ e. (e.h == h) && (e.uid == group_uid)) entries
 
--- an entry behind one with this handle: a higher handle, to 1,024, and a legal block size
+-- a legal entry after an entry with this handle: a higher handle, at most 1,024, and a legal block size
 abbrev pub is_entry : ℕ → Entry → Bool
 is_entry last e = nat_lt last e.h && nat_le e.h most_blocks && is_block_size e.len
 
--- entries behind one with this handle, in ascending order
+-- legal entries after an entry with this handle, with ascending handles
 abbrev pub are_entries : ℕ → List Entry → Bool
 are_entries last [] = true
 are_entries last (e ∷ entries) = is_entry last e && are_entries e.h entries
@@ -35,7 +35,7 @@ may_be_map_block entries h = (h == 0) || has_block entries h
 abbrev pub may_be_map_group : List Entry → ℕ → Bool
 may_be_map_group entries g = (g == 0) || has_group entries g
 
--- it may be the map item: 0 where there is no group
+-- it may be the map item: 0 if there is no group
 abbrev pub may_be_map_item : ℕ → ℕ → Bool
 may_be_map_item g item = not (g == 0) || (item == 0)
 

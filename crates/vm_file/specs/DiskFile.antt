@@ -1,4 +1,5 @@
--- What a device on a file of the system is known to hold. No contract can say what such a file gives, so it claims nothing of its bytes.
+-- What is known of a device on a file of the system. No contract can
+-- describe what such a file returns, so nothing is claimed of its bytes.
 use Rattle.std.specs.Prelude.{◌≡◌, ℕ, Bool, true, false, List, replicate, Result, OnErr, OnOk}
 use Rattle.vm_file.specs.Device.{Counts, Medium}
 use Rattle.vm_file.specs.declared.device.Disk.{Disk}
@@ -16,7 +17,7 @@ failures_of device = device.failures
 abbrev pub may_lack : FileDevice → Bool
 may_lack device = device.may_lack
 
--- so many bytes; nothing is said of them, since it is never honest
+-- so many zeros: only the length matters, because this device is never honest
 abbrev pub bytes_of : FileDevice → List ℕ
 bytes_of device = replicate (len_of device) 0
 
@@ -32,7 +33,7 @@ MayLeave device image = Unit {0}
 abbrev pub MayHaveLeft : FileDevice → FileDevice → List ℕ → Type 0
 MayHaveLeft start device image = Unit {0}
 
--- a read may give anything
+-- a read may return any bytes
 pub record Reads (old : FileDevice) (at : ℕ) (bytes : List ℕ) (result : Result (Unit {0}) Disk) (new : FileDevice) : Type 0 where
   pub counts : Counts (failures_of old) (failures_of new) result
   pub lacks : may_lack new ≡ may_lack old
@@ -43,13 +44,13 @@ pub record Writes (old : FileDevice) (at : ℕ) (bytes : List ℕ) (result : Res
   pub written : OnOk result (may_lack new ≡ false)
   pub refused : OnErr result (may_lack new ≡ may_lack old)
 
--- a sync fails where one has failed, and nothing was written since
+-- a sync fails if an earlier one failed and nothing was written since
 pub record Syncs (old : FileDevice) (result : Result (Unit {0}) Disk) (new : FileDevice) : Type 0 where
   pub counts : Counts (failures_of old) (failures_of new) result
   pub synced : OnOk result ((may_lack old ≡ false) × (may_lack new ≡ false))
   pub refused : OnErr result (may_lack new ≡ true)
 
--- such a device
+-- the device on a file as a medium
 abbrev pub medium : Medium FileDevice
 medium = record {
   image = bytes_of;

@@ -1,4 +1,4 @@
--- What a device whose calls fail on order holds.
+-- The state of a device whose calls fail on order.
 use Rattle.std.specs.Prelude.{◌≡◌, ◌⊎◌, ℕ, ◌/◌, Bool, not, ◌&&◌, ◌||◌, ◌==◌, nat_lt, List, length, take, Result, OnOk}
 use Rattle.lmem_raw.specs.Bytes.{with_part}
 use Rattle.vm_file.specs.Device.{Counts, Medium, Touched, all_failures, one_more}
@@ -44,7 +44,7 @@ pub record CountsCall {D : Type 0} (old new : FaultDevice D) : Type 0 where
   pub call : call_of new ≡ call_of old
   pub rest : rest_of new ≡ rest_of old
 
--- a call went on to the device below, as one call of it: it fails where that does
+-- a call was passed to the device below, as one call of it: it fails if the call below fails
 pub record PassesOn {D T E : Type 0} (failed : D → ℕ) (one_call : D → Result T E → D → Type 0) (old new : FaultDevice D)
     (result : Result T E) : Type 0 where
   pub call : one_call (inner_of old) result (inner_of new)

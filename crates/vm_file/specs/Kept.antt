@@ -5,7 +5,8 @@ use Rattle.vm_file.specs.Reading.{area_of, base_of, found, pair_at}
 use Rattle.vm_file.specs.Spelling.{empty_pair}
 use Rattle.vm_file.specs.State.{FileState, pair_of}
 
--- a pair that it is sure of, or two between which it is unsure: the one that it reads, and the one that a commit was to put in its place
+-- the pair that the file is sure of; or the two between which it is
+-- unsure: the selected pair, and the one that a commit was writing
 pub data Kept : Type 0 where
   SureOf : Pair → Kept
   UnsureBetween : Pair → Pair → Kept
@@ -15,15 +16,15 @@ abbrev pub or_empty : Result Pair ℕ → Pair
 or_empty (Ok pair) = pair
 or_empty (Err at) = empty_pair
 
--- the pair that the other area spells, or an empty one where it spells none
+-- the pair that the other area encodes, or an empty pair if it encodes none
 abbrev pub other_pair : {D : Type 0} → (D → List ℕ) → FileState D → Pair
 other_pair image f = or_empty (pair_at (base_of f.area (not f.second)) (area_of (image f.device) f.area (not f.second)))
 
--- what the file keeps
+-- the committed pair, or the two candidates if the file is unsure
 abbrev pub kept_of : {D : Type 0} → (D → List ℕ) → FileState D → Kept
 kept_of image f = if f.sure then SureOf (pair_of image f) else UnsureBetween (pair_of image f) (other_pair image f)
 
--- `open` finds in an image what is kept: that pair, or one of the two
+-- `open` finds the committed pair in an image, or one of the two candidates
 abbrev pub FindsKept : Kept → List ℕ → Type 0
 FindsKept (SureOf pair) c = found c ≡ Ok pair
 FindsKept (UnsureBetween pair other) c = (found c ≡ Ok pair) ⊎ (found c ≡ Ok other)

@@ -1,4 +1,4 @@
--- What holds of the definitions, whatever a device holds.
+-- What is true of the definitions, whatever a device contains.
 use Rattle.std.specs.Prelude.{◌≡◌, ◌↔◌, ℕ, ◌&&◌, Bool, List, take, Ok, true}
 use Rattle.geos_terms.specs.Bytes.{AreBytes}
 use Rattle.vm_file.specs.Contents.{Pair, is_contents, pair_length, pair_spelling}
@@ -8,7 +8,7 @@ use Rattle.vm_file.specs.Reading.{pair_at}
 abbrev pub is_pair : Pair → Bool
 is_pair p = is_contents p.cur && is_contents p.saved
 
--- bytes are read as a pair exactly where it is legal and they begin with its spelling
+-- bytes are read as a pair exactly if the pair is legal and the bytes begin with its encoding
 abbrev pub PairsHaveOneSpelling : Type 0
 PairsHaveOneSpelling =
     (at : ℕ) (bytes : List ℕ) (p : Pair) → AreBytes bytes → (pair_at at bytes ≡ Ok p)

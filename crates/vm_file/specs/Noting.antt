@@ -2,7 +2,8 @@
 use Rattle.std.specs.Prelude.{◌≡◌, List, ℕ}
 use Rattle.vm_file.specs.Device.{Medium}
 
--- a device on which nothing was written: reads give the same, and a stop from now on leaves nothing else; of a stop before now nothing is said
+-- nothing was written: reads return the same, and a stop from
+-- now on leaves nothing new; stops before now are not covered
 pub record Rests {D : Type 0} (medium : Medium D) (old new : D) : Type 0 where
   pub same : medium.image new ≡ medium.image old
   pub stays : medium.honest old → medium.honest new

@@ -9,7 +9,7 @@ use Rattle.vm_file.specs.declared.error.OpenError.{OpenError}
 use Rattle.vm_file.specs.declared.error.OpenError.TheVariants as open_error
 use Rattle.vm_file.specs.Device.{AfterWrite, FailedOnce, Medium, NoneFails, Only, Passes, Rose, Touched}
 
--- a device on which nothing was written: reads give the same, and a stop leaves nothing else
+-- a device on which nothing was written: reads return the same, and a stop leaves nothing new
 pub record ReadsOnly {D : Type 0} (medium : Medium D) (old new : D) : Type 0 where
   pub same : medium.image new ≡ medium.image old
   pub stays : medium.honest old → medium.honest new
@@ -24,37 +24,37 @@ pub record ReadsToFailure {D T E : Type 0} (medium : Medium D) (old new : D) (re
   pub once : FailedOnce (medium.failed old) (medium.failed new)
   pub steady : NoneFails medium old new
 
--- why a file was not opened: the fault of what was read; want of memory and of the device tell nothing
+-- why a file was not opened: the fault in what was read; lack of memory and a device error say nothing about the bytes
 abbrev pub IsRefused : {Y : Type 0} → OpenError → Result Y ℕ → Type 0
 IsRefused (open_error.BadFile at) read = read ≡ Err at
 IsRefused open_error.Disk read = Unit {0}
 IsRefused open_error.Memory read = Unit {0}
 
--- the error is `Disk` only where a failure was counted, and else none was
+-- the error is `Disk` if and only if a failure of the device was counted
 abbrev pub IsCaused : ℕ → ℕ → OpenError → Type 0
 IsCaused before now (open_error.BadFile at) = now ≡ before
 IsCaused before now open_error.Disk = Rose before now
 IsCaused before now open_error.Memory = now ≡ before
 
--- what was read, seen so, is what the call gave; an error is refused so
+-- a call returned what the specification reads, seen through `view`, or an error that the specification allows
 abbrev pub Tells : {X Y : Type 0} → (Y → X) → Result X OpenError → Result Y ℕ → Type 0
 Tells view (Ok x) read = IsOkAnd read (λ y. view y ≡ x)
 Tells view (Err e) read = IsRefused e read
 
--- `Disk` comes only where a failure was counted, and else none was
+-- the result is the error `Disk` if and only if a failure of the device was counted
 abbrev pub Causes : {X : Type 0} → ℕ → ℕ → Result X OpenError → Type 0
 Causes before now result = MatchResult result (λ x. now ≡ before) (λ e. IsCaused before now e)
 
--- the same for a call that has no other refusal
+-- the same for a call whose only error is a device error
 abbrev pub CausesDisk : {X E : Type 0} → ℕ → ℕ → Result X E → Type 0
 CausesDisk before now result = MatchResult result (λ x. now ≡ before) (λ e. Rose before now)
 
--- with the list that a vector holds in place of the vector
+-- the result with the list of a vector instead of the vector
 abbrev pub items_of : {X E : Type 0} → Result (ArrayVec X) E → Result (List X) E
 items_of (Ok v) = Ok v.items
 items_of (Err e) = Err e
 
--- a device on which nothing was written but so many bytes from an offset on, which a stop may leave in part
+-- a device on which only n bytes from an offset on were written; a stop may leave only some of them
 pub record WritesOnly {D : Type 0} (medium : Medium D) (at n : ℕ) (old new : D) : Type 0 where
   pub long : length (medium.image new) ≡ length (medium.image old)
   pub stays : medium.honest old → medium.honest new
@@ -63,11 +63,12 @@ pub record WritesOnly {D : Type 0} (medium : Medium D) (at n : ℕ) (old new : D
   pub stop : medium.honest old → (c : List ℕ) → medium.may_leave new c → AfterWrite at n (medium.may_leave old) c
   pub time : medium.honest old → Passes medium.may_have_left old new (AfterWrite at n (medium.may_leave old))
 
--- stopped at any moment from the one state to the other, a device has what a stop before might have left, or that with any bytes in this range
+-- after a stop at any moment between two states, a device has what
+-- an earlier stop could have left, with any bytes in this range
 abbrev pub LeavesBytes : {D : Type 0} → Medium D → ℕ → ℕ → D → D → Type 0
 LeavesBytes medium at n old new = medium.honest old → (c : List ℕ) → medium.may_have_left old new c → AfterWrite at n (medium.may_leave old) c
 
--- stopped so, a device on which nothing is written has what a stop before might have left
+-- after a stop between two states, a device on which nothing was written has what an earlier stop could have left
 abbrev pub LeavesAlike : {D : Type 0} → Medium D → D → D → Type 0
 LeavesAlike medium old new = medium.honest old → (c : List ℕ) → medium.may_have_left old new c → medium.may_leave old c
 
@@ -75,11 +76,11 @@ LeavesAlike medium old new = medium.honest old → (c : List ℕ) → medium.may
 abbrev pub IsHeapUnder : ℕ → List ℕ → Type 0
 IsHeapUnder h bytes = IsHeap bytes × (handle_word bytes ≡ h)
 
--- one read from an offset on gave these bytes, which are no heap under this handle
+-- one read from an offset on returned these bytes, which are no heap under this handle
 abbrev pub GivesNoBlock : {D : Type 0} → Medium D → ℕ → ℕ → D → D → List ℕ → Type 0
 GivesNoBlock medium h at old new bytes = medium.reads old at bytes (Ok tt) new × (IsHeapUnder h bytes → ⊥)
 
--- a block was not read only where a failure was counted, or where its bytes came, and are no heap under its handle
+-- if a block was not read, a failure was counted, or its bytes were returned and are no heap under its handle
 abbrev pub CausesNoBlock : {D X E : Type 0} → Medium D → ℕ → ℕ → D → D → List ℕ → Result X E → Type 0
 CausesNoBlock medium h at old new bytes result = OnErr result (Rose (medium.failed old) (medium.failed new) ⊎ GivesNoBlock medium h at old new bytes)
 
@@ -87,7 +88,8 @@ CausesNoBlock medium h at old new bytes result = OnErr result (Rose (medium.fail
 abbrev pub IsOfBlock : ℕ → ℕ → Entry → Type 0
 IsOfBlock h n e = (e.h ≡ h) × (e.len ≡ n)
 
--- the last read of a call, which only read until then, gave bytes of the length of one of these entries that are no heap under its handle
+-- a call only read; its last read returned bytes with the length of
+-- one of these entries that are no heap under the entry's handle
 pub record FindsNoBlock {D : Type 0} (medium : Medium D) (of : Entry → Type 0) (old new : D) : Type 0 where
   pub entry : Entry
   pub listed : of entry
@@ -99,11 +101,13 @@ pub record FindsNoBlock {D : Type 0} (medium : Medium D) (of : Entry → Type 0)
   pub long : length bytes ≡ entry.len
   pub gave : GivesNoBlock medium entry.h at before new bytes
 
--- blocks of these entries were not read only where a failure was counted, or where such bytes came
+-- if blocks of these entries were not read, a failure was
+-- counted, or bytes of one of them were no heap under its handle
 abbrev pub CausesNoBlocks : {D X E : Type 0} → Medium D → (Entry → Type 0) → D → D → Result X E → Type 0
 CausesNoBlocks medium of old new result = OnErr result (Rose (medium.failed old) (medium.failed new) ⊎ FindsNoBlock medium of old new)
 
--- a call begins with a sync: where that fails, it makes no other, and ends so; behind it it only reads, and a stop leaves what reads give
+-- a call begins with a sync. If the sync fails, the call fails at
+-- once; otherwise it only reads, and a stop leaves what reads return
 pub record BeginsWithSync {D : Type 0} (medium : Medium D) (fails : Type 0) (old new : D) : Type 0 where
   pub answer : Result (Unit {0}) Disk
   pub synced : D

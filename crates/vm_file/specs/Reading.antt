@@ -1,4 +1,4 @@
--- What a file spells, with the offset of the first field that is cut or breaks its rule.
+-- What a file encodes, or the offset of the first field that is cut short or breaks its rule.
 use Rattle.std.specs.Prelude.{ℕ, zero, suc, ◌+◌, ◌*◌, ◌%◌, Bool, ◌&&◌, not, nat_lt, nat_le, nat_eq, ◌==◌, if◌then◌else◌, List, [], ◌∷◌, length, take, drop, map, Result, Ok, Err, slice_index}
 use Rattle.std.specs.List.{position_or_len, starts_with}
 use Rattle.lmem_raw.specs.Bytes.{part}
@@ -10,22 +10,22 @@ use Rattle.geos_terms.specs.HeapTest.{is_heap}
 use Rattle.vm_file.specs.Directories.{most_blocks, may_be_map_block, may_be_map_group, may_be_map_item, entries_length}
 use Rattle.vm_file.specs.Contents.{Block, Contents, Pair, entry_of, contents_length}
 
--- reading goes on with what was read, and stops at the first fault
+-- continues with what was read, or stops at the first fault
 infixl 10 ◌>>=◌
 abbrev pub ◌>>=◌ : {A B : Type 0} → Result A ℕ → (A → Result B ℕ) → Result B ℕ
 (Ok x) >>= f = f x
 (Err at) >>= f = Err at
 
--- what was read, or a fault at the offset where it breaks its rule
+-- what was read, or a fault at the offset if it breaks its rule
 abbrev pub wanted : {A : Type 0} → ℕ → (A → Bool) → Result A ℕ → Result A ℕ
 wanted at rule (Ok x) = if rule x then Ok x else Err at
 wanted at rule (Err e) = Err e
 
--- the word at k of the bytes that stand at an offset; where it is cut, the fault is there
+-- word k of bytes that lie at an offset; a fault there if the bytes end before it
 abbrev pub word_at : ℕ → List ℕ → ℕ → Result ℕ ℕ
 word_at at bytes k = if nat_lt (k + 1) (length bytes) then Ok (word bytes k) else Err (at + k)
 
--- handle, user ID and length of a block, behind one with this handle
+-- handle, user ID and length of a block, after a block with this handle
 unfoldable pub head_at : ℕ → ℕ → List ℕ → Result Entry ℕ
 head_at last at bytes = do
   h ← wanted at (λ h. nat_lt last h && nat_le h most_blocks) (word_at at bytes 0)
@@ -39,14 +39,14 @@ bytes_at e at bytes =
     let block = take e.len bytes in
     if nat_le e.len (length bytes) && is_heap block && (handle_word block == e.h) then Ok block else Err at
 
--- a block, behind one with this handle
+-- a block, after a block with this handle
 unfoldable pub block_at : ℕ → ℕ → List ℕ → Result Block ℕ
 block_at last at bytes = do
   e ← head_at last at bytes
   block ← bytes_at e (at + 6) (drop 6 bytes)
   Ok (record { h = e.h; uid = e.uid; bytes = block })
 
--- so many blocks, behind one with this handle
+-- so many blocks, after a block with this handle
 abbrev pub blocks_at : ℕ → ℕ → ℕ → List ℕ → Result (List Block) ℕ
 blocks_at zero last at bytes = Ok []
 blocks_at (suc n) last at bytes = do
@@ -111,7 +111,7 @@ header_at bytes = do
 abbrev pub is_second : ℕ → Bool
 is_second selector = selector % 2 == 1
 
--- where an area begins
+-- the offset at which an area begins
 abbrev pub base_of : ℕ → Bool → ℕ
 base_of area second = if second then 1024 + area else 1024
 
@@ -123,13 +123,13 @@ area_of image area second = part image (base_of area second) area
 abbrev pub selector_at : List ℕ → Result ℕ ℕ
 selector_at image = if nat_lt 512 (length image) then Ok (slice_index image 512) else Err 512
 
--- what a file holds: the area size, whether the second area is selected, and the pair in the one that is
+-- the contents of a file: the area size, whether the second area is selected, and the pair in the selected area
 pub record File : Type 0 where
   pub area : ℕ
   pub second : Bool
   pub pair : Pair
 
--- the file that an image spells
+-- the file that an image encodes
 unfoldable pub file_at : List ℕ → Result File ℕ
 file_at image = do
   area ← header_at (take 512 image)

@@ -1,4 +1,4 @@
--- What is written in front of the areas.
+-- What is written before the areas.
 use Rattle.std.specs.Prelude.{Bool, if◌then◌else◌, ℕ, ◌%◌, ◌/◌, List, [], ◌∷◌, ◌++◌, replicate}
 use Rattle.geos_terms.specs.Bytes.{word_bytes}
 use Rattle.vm_file.specs.Contents.{Contents, Pair}
@@ -12,7 +12,7 @@ long_bytes n = n % 256 ∷ n / 256 % 256 ∷ n / 65536 % 256 ∷ n / 16777216 �
 abbrev pub header_spelling : ℕ → List ℕ
 header_spelling area = magic ++ word_bytes 1 ++ word_bytes 0 ++ long_bytes area ++ replicate 500 0
 
--- what a new file begins with: the header, the selector 0, zeros to 1,023, and two empty directories in the first area
+-- the start of a new file: the header, the selector 0, zeros to 1,023, and two empty directories in the first area
 abbrev pub new_file : ℕ → List ℕ
 new_file area = header_spelling area ++ replicate 512 0 ++ replicate 16 0
 

@@ -99,8 +99,8 @@ fn write_changes<D: Device>(device: &mut D, at: u64, bytes: &[u8]) -> Result<(),
     write_durably(device, base, &rest[..n])
 }
 
-/// Writes bytes from an offset on, and makes them last. If the contents of the device there are known, and the bytes are many, it reads
-/// the bytes at both ends first, and does not write those again that the device has.
+/// Writes bytes from an offset on, and makes them durable. If the contents of the device there are known, and there
+/// are many bytes, it first reads the bytes at both ends, and does not write those that the device has already.
 pub(crate) fn write_area<D: Device>(
     device: &mut D,
     at: u64,

@@ -13,7 +13,7 @@ use crate::reader::is_heap_of;
 /// Which pair of directories a commit keeps.
 #[derive(Clone, Copy, Drop)]
 pub enum How {
-    /// The given current directory, and the saved one as it was.
+    /// The given current directory, and the saved one unchanged.
     Update,
     /// The given directory as the current one and the saved one.
     Save,
@@ -23,10 +23,10 @@ pub enum How {
 
 /// Blocks that are in memory.
 pub trait Source {
-    /// The bytes of the block with a handle, where it is in memory.
+    /// The bytes of the block with a handle, if it is in memory.
     ghost resident_bytes: { Self → ℕ → Option (List ℕ) };
 
-    /// The bytes of the block with a handle, where it is in memory.
+    /// The bytes of the block with a handle, if it is in memory.
     fn resident(&self, h: u16) -> Option<&[u8]>
         ensures { Shows result (resident_bytes self.now h) };
 }
@@ -55,7 +55,7 @@ pub(crate) fn length_after(how: How, cur: &Directory, saved: &Directory) -> u32
     }
 }
 
-/// Turns a current and a saved directory into those that a commit keeps.
+/// Replaces a current and a saved directory by those of the pair that is committed.
 pub(crate) fn go_on(current: &mut PlacedDirectory, saved: &mut Directory, how: How, cur: &Directory)
     requires given { is_directory cur.now ≡ true }
     requires kept { is_directory saved.old ≡ true }

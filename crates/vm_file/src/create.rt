@@ -25,8 +25,7 @@ fn new_file(area: u32) -> [u8; 1040]
     bytes
 }
 
-/// How many bytes a device needs for a file with areas of so many bytes: those of the header and
-/// the selector, and two areas.
+/// The length of a device for a file with areas of this size: header, selector and two areas.
 pub fn device_length(area: u32) -> u64
     ensures { result ≡ 1024 + 2 * area }
 {

@@ -20,12 +20,11 @@ pub struct Disk;
 /// written to it. The others hold of every device. No device keeps a record of its calls: its
 /// clauses only say which images a stop can't leave.
 pub trait Device {
-    /// The bytes that reads give, whether it is honest, how often it has failed, what a stop
-    /// leaves of it, and what one call of it may do: on a device of which nothing else is known,
-    /// only a call of it shows that.
+    /// The bytes that reads return, whether the device is honest, how often it has failed, what a stop leaves
+    /// of it, and what one call of it may do. If nothing else is known of a device, only its calls show this.
     ghost medium: { Medium Self };
 
-    /// The length in bytes. So many numbers below 256 are what reads give.
+    /// The length in bytes. Reads return so many numbers below 256.
     fn len(&self) -> u64
         ensures length { result ≡ length (medium.image self.now) }
         ensures bytes { AreBytes (medium.image self.now) };
@@ -34,8 +33,8 @@ pub trait Device {
     fn failures(&self) -> u64
         ensures { result ≡ medium.failed self.now };
 
-    /// Reads the bytes from an offset on. `Disk` if the device fails, as it does past its
-    /// length; what `into` holds then is not said.
+    /// Reads the bytes from an offset on. `Disk` if the device fails, as
+    /// it does past its length; then the contents of `into` are unknown.
     fn read_at(&mut self, at: u64, into: &mut [u8]) -> Result<(), Disk>
         ensures within { OnOk result (at + length into.old ≤ length (medium.image self.old)) }
         ensures bytes { medium.honest self.old → OnOk result (into.new ≡ part (medium.image self.old) at (length into.old)) }
@@ -53,15 +52,14 @@ pub trait Device {
         ensures cause { Counts (medium.failed self.old) (medium.failed self.new) result }
         ensures call { medium.writes self.old at bytes.now result self.new };
 
-    /// Makes last what was written: after it a stop leaves what reads give. `Disk` if the
-    /// device fails.
+    /// Makes durable what was written: after it a stop leaves what reads return. `Disk` if the device fails.
     fn sync(&mut self) -> Result<(), Disk>
         ensures durable { medium.honest self.old → OnOk result (Only (medium.image self.new) (medium.may_leave self.new)) }
         ensures reads { ReadsOnly medium self.old self.new }
         ensures cause { Counts (medium.failed self.old) (medium.failed self.new) result }
         ensures call { medium.syncs self.old result self.new };
 
-    /// What reads give is one of the images that a stop may leave.
+    /// A stop may leave what reads return.
     ghost reads_now: { (d : Self) → medium.may_leave d (medium.image d) };
 
     /// In no time a stop may leave what it may leave now.

@@ -48,7 +48,7 @@ impl Directory {
         }
     }
 
-    /// The entry of the block with a handle, where there is one.
+    /// The entry of the block with a handle, if there is one.
     pub fn entry(&self, handle: u16) -> Option<Entry>
         ensures { result ≡ find (λ e. e.h == handle) self.now.entries.items }
     {

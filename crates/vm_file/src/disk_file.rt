@@ -33,9 +33,9 @@ impl From<io::Error> for Disk {
 impl FileDevice {
     ghost use Rattle.vm_file.specs.DiskFile.{failures_of, len_of, may_lack};
 
-    /// Makes a file of so many zero bytes, which lasts, as the folder's entry with its name
-    /// does. `Disk` if the system refuses, as it does where the path exists already: that
-    /// file is not touched. A file that it made is removed then, if the system lets it.
+    /// Makes a durable file of so many zero bytes, with a durable entry in the folder. `Disk` if the system refuses, as
+    /// it does if the path exists already: that file is not touched. If a later step fails, it removes the file that it
+    /// made, if the system lets it.
     pub fn create<R: Files<File = File>>(
         rt: &R,
         _alloc: Global,
@@ -100,7 +100,7 @@ impl FileDevice {
         }
     }
 
-    /// A device on an open file, of the length that the system tells. `Disk` if it does not tell.
+    /// A device on an open file, with the length that the system reports. `Disk` if it reports none.
     pub fn of(file: File) -> Result<FileDevice, Disk>
         ensures failures { IfOk result (λ device. failures_of device ≡ 0) }
         ensures may_lack { IfOk result (λ device. may_lack device ≡ false) }
@@ -109,8 +109,7 @@ impl FileDevice {
         Ok(FileDevice::new(file, len))
     }
 
-    /// A device on an open file, which gets so many bytes: those that it lacks are zeros. `Disk` if the
-    /// system refuses.
+    /// A device on an open file, which is extended by zeros to this length. `Disk` if the system refuses.
     pub fn of_length(file: File, len: u64) -> Result<FileDevice, Disk>
         ensures len { IfOk result (λ device. len_of device ≡ len) }
         ensures failures { IfOk result (λ device. failures_of device ≡ 0) }
@@ -128,7 +127,7 @@ impl FileDevice {
     }
 }
 
-/// Gives a new file its length, and makes it and its name last.
+/// Sets the length of a new file, and makes the file and its name durable.
 fn make_last<R: Files<File = File>>(rt: &R, file: &File, path: &str, len: u64) -> io::Result<()> {
     file.set_len(len)?;
     file.sync_all()?;
@@ -170,7 +169,7 @@ impl Device for FileDevice {
         self.failures
     }
 
-    /// Reads the bytes from an offset on. `Disk` past the length, and where the system refuses.
+    /// Reads the bytes from an offset on. `Disk` past the length, or if the system refuses.
     fn read_at(&mut self, at: u64, into: &mut [u8]) -> Result<(), Disk>
         ensures within { OnOk result (at + length into.old ≤ length (bytes_of self.old)) }
         ensures reads { ReadsOnly medium self.old self.new }
@@ -185,7 +184,7 @@ impl Device for FileDevice {
         counted(&mut self.failures, self.file.read_exact_at(into, at))
     }
 
-    /// Writes bytes from an offset on. `Disk` past the length, and where the system refuses.
+    /// Writes bytes from an offset on. `Disk` past the length, or if the system refuses.
     fn write_at(&mut self, at: u64, bytes: &[u8]) -> Result<(), Disk>
         ensures within { OnOk result (at + length bytes.now ≤ length (bytes_of self.old)) }
         ensures writes { WritesOnly medium at (length bytes.now) self.old self.new }

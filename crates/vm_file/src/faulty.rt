@@ -7,9 +7,9 @@ ghost use Rattle.vm_file.specs.Outcomes.{ReadsOnly, WritesOnly};
 
 use crate::device::{Device, Disk, count_failure};
 
-/// A device that passes its calls on to another one and lets one of them fail, or that one and
-/// all later ones. A failing read gives nothing, a failing write writes the first half of its
-/// bytes, rounded down, and a failing `sync` does nothing.
+/// A device that passes its calls to another one and makes one of them fail, or that one and all later ones. A failing
+/// read returns nothing, a failing write writes the first half of its bytes, rounded down, and a failing `sync` does
+/// nothing.
 #[derive(Drop)]
 pub struct FaultDevice<D: Device + Drop> {
     inner: D,
@@ -62,7 +62,7 @@ impl<D: Device + Drop> FaultDevice<D> {
     }
 }
 
-/// Counts a call, and tells whether it is to fail.
+/// Counts a call, and returns whether it is to fail.
 fn is_due(calls: &mut u64, call: u64, rest: bool) -> bool
     ensures counted { calls.new ≡ one_more calls.old }
     ensures due { result ≡ is_due (one_more calls.old) call rest }
@@ -84,7 +84,7 @@ impl<D: Device + Drop> Device for FaultDevice<D> {
         self.inner.failures().saturating_add(self.own)
     }
 
-    /// Reads the bytes from an offset on, as the device below does; a call that fails on order gives nothing.
+    /// Reads the bytes from an offset on, as the device below does; a call that fails on order returns nothing.
     fn read_at(&mut self, at: u64, into: &mut [u8]) -> Result<(), Disk>
         ensures within { OnOk result (at + length into.old ≤ length (D.medium.image (inner_of self.old))) }
         ensures bytes { D.medium.honest (inner_of self.old)

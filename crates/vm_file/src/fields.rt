@@ -116,7 +116,7 @@ fn zeros_at(bytes: &[u8]) -> usize
     leading_zeros(&bytes[from..end])
 }
 
-/// The area size that the first 512 bytes of a file tell, or as many as there are.
+/// The area size in the first 512 bytes of a file, or in as many as there are.
 #[tactic(auto, unfolding(crate::specs::Reading::header_at))]
 pub(crate) fn header_at(bytes: &[u8]) -> Result<u32, Fault>
     ensures exact { result ≡ header_at bytes.now }

@@ -22,7 +22,7 @@ use crate::spell::{Placed, put_again, spell_directory};
 use std::alloc::Global;
 use std::marker::Model;
 
-/// A VM file on a device. It keeps the two directories that the device holds, and no block.
+/// A VM file on a device. In memory it has the file's two directories, and no block.
 #[derive(Drop)]
 pub struct VmFile<D: Device + Drop> {
     device: D,
@@ -61,10 +61,9 @@ impl<D: Device + Drop> VmFile<D> {
     ghost use Rattle.vm_file.specs.State.{Finds, HasBlock, IsOther, ListsPair, ReadsFile, Steadily};
     ghost use Rattle.vm_file.specs.State.{block_at, bytes_of_block, file_of, pair_of, saved_block_at};
 
-    /// Makes a file on a device: writes the header, the selector and two empty directories,
-    /// and ends with a `sync`. `area` is a legal area size, and the device has room for the file
-    /// (`device_length`). The device comes back with each refusal: `Disk`
-    /// if it fails; then its first 1,040 bytes may be any bytes.
+    /// Makes a file on a device: writes the header, the selector and two empty directories, and ends with a `sync`.
+    /// `area` is a legal area size, and the device has room for the file (`device_length`). Each error returns the
+    /// device: `Disk` if it fails; then its first 1,040 bytes may be any bytes.
     pub fn create(alloc: Global, mut device: D, area: u32) -> Result<VmFile<D>, (D, CreateError)>
         requires area { is_area area ≡ true }
         requires room { 1024 + 2 * area ≤ length (D.medium.image device) }
@@ -108,11 +107,10 @@ impl<D: Device + Drop> VmFile<D> {
         }
     }
 
-    /// Opens the file that a device holds. It begins with a `sync`, reads the selected area
-    /// through a buffer of one block, and holds only the two directories in memory. The device
-    /// comes back with each refusal: `BadFile` with the offset of the first byte of the first
-    /// field, in file order, that is cut or breaks its rule; `Disk` if the device fails;
-    /// `Memory` if an allocation is refused.
+    /// Opens the file on a device. It begins with a `sync`, reads the selected area through a buffer of one block, and
+    /// stores only the two directories in memory. Each error returns the device: `BadFile` with the offset of the first
+    /// byte of the first field, in file order, that is cut or breaks its rule; `Disk` if the device fails; `Memory` if
+    /// an allocation is refused.
     pub fn open(alloc: Global, mut device: D) -> Result<VmFile<D>, (D, OpenError)>
         ensures exact { D.medium.honest device → MatchResult result
             (λ file. file_at (D.medium.image device) ≡ Ok (file_of D.medium.image file))
@@ -156,9 +154,8 @@ impl<D: Device + Drop> VmFile<D> {
         }
     }
 
-    /// Whether it is sure of the pair that it keeps. Where it is not, a commit failed while the
-    /// selector was written: a stop leaves that pair or the new one. A file that is not sure takes
-    /// no commit.
+    /// Whether the file is sure of its committed pair. If it is not, a commit failed while it wrote
+    /// the selector: a stop leaves the old pair or the new one. A file that is unsure refuses commits.
     pub fn is_sure(&self) -> bool
         ensures sure { result ≡ self.now.sure }
         ensures pair { ListsPair (pair_of D.medium.image self.now) self.now.current self.now.saved }
@@ -168,7 +165,7 @@ impl<D: Device + Drop> VmFile<D> {
         self.sure
     }
 
-    /// What the device gives are bytes: numbers below 256.
+    /// The device returns bytes: numbers below 256.
     pub fn device_gives_bytes(&self)
         ensures { AreBytes (D.medium.image self.now.device) }
     {
@@ -193,9 +190,9 @@ impl<D: Device + Drop> VmFile<D> {
         &self.saved
     }
 
-    /// Reads the bytes of a block of the current directory straight into `into`, which is as
-    /// long as its entry says. `Disk` if the device fails, and then it is not said what `into`
-    /// holds, or where it gives bytes that are no heap with that handle.
+    /// Reads the bytes of a block of the current directory directly into `into`, which is as long as its entry lists.
+    /// `Disk` if the device fails, and then the contents of `into` are unknown, or if it returns bytes that are no heap
+    /// with this handle.
     pub fn block(&mut self, handle: u16, into: &mut [u8]) -> Result<(), Disk>
         requires { HasBlock self.old.current handle (length into.old) }
         ensures bytes { D.medium.honest self.old.device
@@ -221,8 +218,7 @@ impl<D: Device + Drop> VmFile<D> {
         read_block(&mut self.device, at, handle, into)
     }
 
-    /// Reads the bytes of a block of the saved directory, as `block` does those of the current
-    /// one.
+    /// Reads the bytes of a block of the saved directory, as `block` reads a block of the current one.
     pub fn saved_block(&mut self, handle: u16, into: &mut [u8]) -> Result<(), Disk>
         requires { HasBlock self.old.saved handle (length into.old) }
         ensures bytes { D.medium.honest self.old.device
@@ -249,9 +245,8 @@ impl<D: Device + Drop> VmFile<D> {
         read_block(&mut self.device, at, handle, into)
     }
 
-    /// Whether this directory may be committed with these blocks: it is legal, and each of its
-    /// blocks is in memory as a heap of its length under its handle or, where none is in
-    /// memory, in the current directory at that length.
+    /// Whether this directory may be committed with these blocks: it is legal, and each of its blocks is in memory as
+    /// a heap with the listed length and handle or, if it is not in memory, in the current directory with that length.
     pub fn may_commit<S: Source>(&self, cur: &Directory, source: &S) -> bool
         ensures { IsTrue result ↔ MayCommit (S.resident_bytes source.now) self.now.current cur.now }
     {
@@ -304,8 +299,8 @@ impl<D: Device + Drop> VmFile<D> {
         }
     }
 
-    /// Appends a directory: its blocks are those of the source where they are resident there, otherwise
-    /// those of the current directory.
+    /// Appends a directory: its blocks are those of the source if they
+    /// are resident there, otherwise those of the current directory.
     fn spell_current<S: Source>(
         &mut self,
         cur: &Directory,

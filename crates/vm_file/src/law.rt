@@ -1,4 +1,4 @@
-//! The lemma on what files hold.
+//! The lemma on the contents of files.
 
 ghost use Rattle.vm_file.specs.Laws.{PairsHaveOneSpelling};
 

@@ -1,4 +1,4 @@
-//! What a device holds when a file is opened.
+//! What is read of a device when a file is opened.
 ghost use Rattle.std.specs.Prelude.{◌≡◌, ◌+◌, ◌-◌, ◌<◌, ◌≤◌, ◌^◌, true, length, take, Err, IfOk, OnOk};
 ghost use Rattle.lmem_raw.specs.Bytes.{part};
 ghost use Rattle.vm_file.specs.Device.{Only};
@@ -16,8 +16,8 @@ use crate::reader::{fill, read_directory};
 use geos_terms::MOST_BLOCK_BYTES;
 use std::alloc::Global;
 
-/// The file that a device holds: its area size, whether the second area is selected, and the
-/// two directories there.
+/// The file on a device: its area size, whether the second area
+/// is selected, and the two directories of the selected area.
 #[derive(Drop)]
 pub(crate) struct Opened {
     pub(crate) area: u32,
@@ -26,7 +26,7 @@ pub(crate) struct Opened {
     pub(crate) saved: Directory,
 }
 
-/// Where an area begins.
+/// The offset at which an area begins.
 pub(crate) fn base_of(area: u32, second: bool) -> u64
     ensures exact { result ≡ base_of area second }
     ensures small { result ≤ 1024 + area }
@@ -99,7 +99,7 @@ fn read_pair<D: Device>(
     }
 }
 
-/// Reads the file that a device holds.
+/// Reads the file on a device.
 fn read_parts<D: Device>(alloc: Global, device: &mut D) -> Result<Opened, OpenError>
     ensures exact { D.medium.honest device.old → Tells listed_file result (file_at (D.medium.image device.old)) }
     ensures legal { IfOk result (λ f. IsOpened f (length (D.medium.image device.old))) }
@@ -132,8 +132,7 @@ fn read_parts<D: Device>(alloc: Global, device: &mut D) -> Result<Opened, OpenEr
     }
 }
 
-/// Reads the file that a device holds. It begins with a `sync`, so that a stop from then on
-/// leaves what was read.
+/// Reads the file on a device. It begins with a `sync`, so that a stop from then on leaves what was read.
 pub(crate) fn read_file<D: Device>(alloc: Global, device: &mut D) -> Result<Opened, OpenError>
     ensures exact { D.medium.honest device.old → Tells listed_file result (file_at (D.medium.image device.old)) }
     ensures legal { IfOk result (λ f. IsOpened f (length (D.medium.image device.old))) }

@@ -56,8 +56,8 @@ pub(crate) fn is_heap_of(block: &[u8], h: u16) -> bool
     check(block) && handle_of(block) == h
 }
 
-/// Reads the bytes of a block with this handle straight into a slice, and checks them. `Disk`
-/// where the device fails, or gives bytes that are no heap with that handle.
+/// Reads the bytes of a block with this handle directly into a slice, and checks them.
+/// `Disk` if the device fails, or returns bytes that are no heap with this handle.
 pub(crate) fn read_block<D: Device>(
     device: &mut D,
     at: u64,

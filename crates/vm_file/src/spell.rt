@@ -42,8 +42,8 @@ fn put_words(into: &mut Vec<u8>, first: u16, second: u16, third: u16)
     put_word(into, third);
 }
 
-/// Reads the bytes of a block with this handle into a slice from `at` on, and checks them. `Disk`
-/// where the device fails, or gives bytes that are no heap with that handle.
+/// Reads the bytes of a block with this handle into a slice from `at` on, and checks
+/// them. `Disk` if the device fails, or returns bytes that are no heap with this handle.
 fn read_from<D: Device>(
     device: &mut D,
     from: u64,

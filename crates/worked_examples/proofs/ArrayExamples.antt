@@ -26,7 +26,7 @@ changed = after (cadel (mem 1) 16 0 willing (after (cains (mem 1) 16 1 2 willing
 abbrev pub part_of_array : ℕ → ℕ → Reference
 part_of_array at n = record { name = mem 1; chunk = 16; start = at; len = n }
 
--- an array with no element: its header alone
+-- an array with no element: only its header
 abbrev pub header_alone : ℕ → Option (List ℕ)
 header_alone k = Some (0 ∷ 0 ∷ k ∷ 0 ∷ 0 ∷ 0 ∷ 8 ∷ 0 ∷ [])
 
@@ -68,8 +68,8 @@ varying_computed = record {
   stale = refl;
 }
 
--- two elements of four bytes, the second of which ends in the word 513: what is asked for is
--- not used
+-- two elements of four bytes, of which the second ends in the word 513; an array of one size ignores the size that
+-- CAADD requests
 abbrev pub pair : Memory
 pair = after (store (part_of_array 12 4) 2 (1 ∷ 2 ∷ []) willing
     (after (caadd (mem 1) 16 99 willing (after (caadd (mem 1) 16 0 willing (after (canew (mem 1) 4 willing one)))))))

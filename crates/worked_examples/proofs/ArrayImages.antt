@@ -7,9 +7,9 @@ use Rattle.geos_image.specs.Parts.{Parts}
 use Rattle.worked_examples.proofs.Images.{instr}
 use Rattle.worked_examples.proofs.BlockImages.{s0, s0_p0, once}
 
--- elements of 3, 0 and 5 bytes are put in, then 2 bytes at index 1, and the first one goes; put
--- out are the count, the lengths of elements 0, 1 and 2, and what 3 is refused with; then the
--- word at 2 is made 1, and what the count is refused with is put out
+-- inserts elements of 3, 0 and 5 bytes, then 2 bytes at index 1, and deletes the first; outputs the count, the
+-- lengths of elements 0, 1 and 2, and the refusal for element 3; then sets the word at 2 to 1, and outputs the
+-- refusal for the count
 abbrev pub edits : Parts
 edits = once (
     (instr Mnew 0 0 0 0 37, open_row)
@@ -53,8 +53,8 @@ edits = once (
     ∷ []
     )
 
--- two elements of 4 bytes; the chunk's length is put out, and the word at an offset of element 1,
--- which must have n bytes; then what it is refused with, or another length for it
+-- two elements of 4 bytes; outputs the chunk's length, and the word at an offset of element 1, which must have n
+-- bytes; then the refusal, or another length for it
 abbrev pub pair : ℕ → ℕ → Parts
 pair n at = once (
     (instr Mnew 0 0 0 0 14, open_row)

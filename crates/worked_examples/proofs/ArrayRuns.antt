@@ -63,7 +63,7 @@ pub edits-run : returned (ending_in_128 willing edits 38) ≡ (36, 1 ∷ 16 ∷ 
 unfolding arr spelled cost word
 edits-run = refl
 
--- 21 bytes, that spelled an array before the word at 2 was made 1
+-- 21 bytes, which encoded an array before the word at 2 was set to 1
 pub edits-leave : left (ending_in_128 willing edits 38)
     ≡ block 0 (Some ((3 ∷ 0 ∷ 1 ∷ 0 ∷ 0 ∷ 0 ∷ 8 ∷ 0 ∷ 14 ∷ 0 ∷ 16 ∷ 0 ∷ 16 ∷ 0 ∷ []) ++ replicate 7 0) ∷ None ∷ []) ∷ []
 unfolding arr spelled cost word

@@ -86,7 +86,7 @@ read_after_move row = once (
     ∷ []
     )
 
--- the same with a second `DEREF s0 p0 w2 8 u` before the LDW, and `OUT w4 u` behind it
+-- the same with a second `DEREF s0 p0 w2 8 u` before the LDW, and `OUT w4 u` after it
 abbrev pub read_after_deref : Parts
 read_after_deref = once (
     (instr Mnew 0 0 0 0 9, open_row)

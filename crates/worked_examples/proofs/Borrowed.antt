@@ -29,6 +29,7 @@ lent_memory marked n = record {
   blocks = [];
   file = record (empty_file 0) { cur = record (no_directory {B = Listed}) { blocks = listed 5 marked (Some (n ∷ 0 ∷ []) ∷ None ∷ []) ∷ [] } };
   region = 65536;
+  handles = 1024;
 }
 
 -- block 1 for s0, and none for the other slots

@@ -149,10 +149,10 @@ spelled_examples = record { byte = refl; read = refl; marked = refl; no_state = 
 -- what the rules say of each pc
 pub record BorrowedJudged : Type 0 where
   pub peek_accepted : judged peek ≡ fine 5
-  -- no caller can meet an entry row that wants the mark
+  -- no caller can meet an entry row that requires the mark
   pub peek_wants_mark : judged (peek_from borrowed_marked) ≡ refused_at 0 EntryMisfit 4
   pub peek_not_borrowed : judged (peek_from (Vm false false)) ≡ refused_at 0 EntryMisfit 4
-  -- and behind the unlock the exit row is not met
+  -- and after the unlock the exit row is not met
   pub unlock_of_borrowed : judged peek_unlocks ≡ None ∷ None ∷ None ∷ None ∷ Some WrongSlot ∷ Some ExitMisfit ∷ []
   pub write_unmarked : judged poke_unmarked ≡ refused_at 2 ChangesUnmarked 1
   pub write_marked : judged poke ≡ fine 5

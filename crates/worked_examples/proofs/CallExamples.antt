@@ -16,7 +16,7 @@ use Rattle.worked_examples.proofs.States.{willing, unwilling}
 
 -- a region with these blocks, that of handle 1 first, and no other
 abbrev pub region_of : List (Option Block) → Memory
-region_of blocks = record { blocks = blocks ++ None ∷ None ∷ []; file = empty_file 0; region = 65536 }
+region_of blocks = record { blocks = blocks ++ None ∷ None ∷ []; file = empty_file 0; region = 65536; handles = 1024 }
 
 -- a new block, locked once
 abbrev pub new_block : Block
@@ -71,7 +71,7 @@ greatest_computed : Greatest
 unfolding cost
 greatest_computed = record { over = refl; most = refl; empty = refl; entry = refl }
 
--- a block grows by sixteens for what its chunks take, and a third chunk wants a longer table
+-- a block grows by multiples of 16 as its chunks need it, and a third chunk needs a longer table
 pub record Growing : Type 0 where
   pub first : outcome (lalloc (mem 1) 10 willing one) ≡ (Ok 16, block_with 64 (zeros 10 ∷ None ∷ []))
   pub second : outcome (lalloc (mem 1) 30 willing (block_with 64 (zeros 10 ∷ None ∷ []))) ≡ (Ok 18, block_with 64 (zeros 10 ∷ zeros 30 ∷ []))
@@ -153,11 +153,18 @@ accesses_computed : Accesses
 unfolding cost word
 accesses_computed = record { byte = refl; word = refl; last = refl; two = refl; up = refl; down = refl; none = refl }
 
--- 1,024 blocks: no handle is left, which is said before want of room
+-- with 1,024 blocks no handle is left; this refusal comes before lack of room
 all_in_use : answer (mnew unwilling (record none { blocks = replicate 1024 (Some new_block) })) ≡ Err NoHandle
 all_in_use = refl
 
--- a lock more; a length told; chunks that stay where all are moved together
+-- handle 2 is free: a new block gets it if the limit is 2, and no handle is left if the limit is 1
+within_the_limit : answer (mnew willing (record (region_of (Some new_block ∷ [])) { handles = 2 })) ≡ Ok 2
+within_the_limit = refl
+
+above_the_limit : answer (mnew willing (record (region_of (Some new_block ∷ [])) { handles = 1 })) ≡ Err NoHandle
+above_the_limit = refl
+
+-- one more lock; a length; chunks that stay the same when all are moved together
 pub record Plain : Type 0 where
   pub locked : outcome (mlock 1 willing one) ≡ (Ok tt, region_of (Some (record new_block { locks = 2 }) ∷ []))
   pub told : outcome (lsize (mem 1) 16 willing eight) ≡ (Ok 8, eight)
@@ -220,10 +227,10 @@ sized size locks = Some (record { locks = locks; heap = record { chunks = None �
 
 -- 64 bytes, locked; 1,000 bytes, locked; and 2,000 bytes, not locked
 abbrev pub three : ℕ → Memory
-three region = record { blocks = sized 64 1 ∷ sized 1008 1 ∷ sized 2000 0 ∷ None ∷ []; file = empty_file 0; region = region }
+three region = record { blocks = sized 64 1 ∷ sized 1008 1 ∷ sized 2000 0 ∷ None ∷ []; file = empty_file 0; region = region; handles = 1024 }
 
--- a block that is to have 4,000 bytes wants them once for itself and once more for each other
--- block that is locked, beside the sizes of all others; one more byte of region is enough room
+-- a block of 4,000 bytes needs this size once for itself and once more for each other locked block, in addition to
+-- the sizes of all others. One more byte of region is enough
 pub record Tight : Type 0 where
   pub grows : is_tight (three 11007) (mem 1) 4000 ≡ true
   pub fits : is_tight (three 11008) (mem 1) 4000 ≡ false

@@ -26,7 +26,7 @@ failing_late = record willing { device = true; unsure = true }
 abbrev pub listing : {B : Type 0} → List (Option B) → Directory B
 listing blocks = record { blocks = blocks; map_block = 0; map_group = 0; map_item = 0 }
 
--- no block, five handles of either owner, and a file just made
+-- no block, five handles of either owner, and a new file
 abbrev pub start : Memory
 start = record {
   blocks = replicate 5 None;
@@ -37,6 +37,7 @@ start = record {
     area = 65536;
   };
   region = 65536;
+  handles = 1024;
 }
 
 -- what a call answers under a choice

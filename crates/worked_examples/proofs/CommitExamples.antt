@@ -76,7 +76,7 @@ keeping_computed = record {
   gone = refl;
 }
 
--- a block that grows behind the save: two chunks more, for which its table has four entries
+-- a block that grows after the save: it has two chunks more, for which its table has four entries
 abbrev pub grown : Memory
 grown = next (vunlock 1) (next (lalloc (vm 1) 200) (next (lalloc (vm 1) 2) (next (vdirty 1) (next (vlock 1) saved_one))))
 
@@ -118,8 +118,8 @@ reverting_computed = record {
   old_map = refl;
 }
 
--- a device that fails early leaves all as it was, and the next save succeeds; one that fails
--- late leaves it open which pair it holds, for good, and memory goes on
+-- if the device fails early, nothing changes and the next save succeeds. If it fails late, the file stays unsure for
+-- good, and calls on memory still succeed
 pub record Failing : Type 0 where
   pub early : answer_under failing vsave put_two ≡ Err refusal.Disk
   pub as_it_was : left_under failing vsave put_two ≡ put_two

@@ -8,7 +8,7 @@ use Rattle.geos_semantics.specs.Model.{Outcome, Fault, Next, Done, step}
 use Rattle.worked_examples.proofs.Images.{instr}
 use Rattle.worked_examples.proofs.States.{willing, alone, no_blocks}
 
--- a state with no block, no slot held and no pointer
+-- a state with no block, no block in a slot and no pointer
 abbrev pub state : List ℕ → List ℕ → ℕ → List ℕ → State
 state words counters pc output = record {
   memory = no_blocks;
@@ -62,7 +62,7 @@ almost_full = state (words 500) (counters 5) 0 (replicate 1023 8)
 abbrev pub within : ℕ → State
 within calls = record before { stack = replicate calls (record { routine = 3; pc = 17 }) }
 
--- behind the instruction
+-- the return to the instruction after the CALL
 abbrev pub behind : Frame
 behind = record { routine = 0; pc = 1 }
 
@@ -94,7 +94,7 @@ pub record Executed : Type 0 where
   pub setkw : stepped (instr Setkw 1 3 0 0 0) ≡ with_k1 40961 1
   pub loop_above : stepped (instr Loop 1 0 0 0 7) ≡ with_k1 4 7
   pub loop_at_0 : stepped (instr Loop 0 0 0 0 7) ≡ at 1
-  -- control begins at the callee's first instruction, and is to return behind the CALL
+  -- control goes to the callee's first instruction, and will return to the instruction after the CALL
   pub call : stepped (instr Call 0 0 0 0 0) ≡ Next (called before)
   pub call_32nd : step (alone (instr Call 0 0 0 0 0)) willing (within 31) ≡ Next (called (within 31))
   pub call_33rd : step (alone (instr Call 0 0 0 0 0)) willing (within 32) ≡ Fault
@@ -103,7 +103,7 @@ pub record Executed : Type 0 where
   pub ret_to_caller : step (alone (instr Ret 0 0 0 0 0)) willing (within 1) ≡ Next (record before { routine = 3; pc = 17 })
   pub out : stepped (instr Out 6 0 0 0 7) ≡ Next (state (words 500) (counters 5) 1 (8 ∷ 21845 ∷ []))
   pub out_1024th : step (alone (instr Out 6 0 0 0 7)) willing almost_full ≡ Next (state (words 500) (counters 5) 1 (replicate 1023 8 ++ 21845 ∷ []))
-  -- w7 tells why, and nothing is put out
+  -- w7 has the refusal, and there is no output
   pub out_1025th : step (alone (instr Out 6 0 0 0 7)) willing (full (words 500)) ≡ Next
       (record (full (65535 ∷ 3 ∷ 500 ∷ 40961 ∷ 9 ∷ 9 ∷ 21845 ∷ 10 ∷ [])) { pc = 7 })
   -- where there is no instruction

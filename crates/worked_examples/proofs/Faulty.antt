@@ -1,4 +1,4 @@
--- The steps that are faults, each on a state where one thing alone is wrong.
+-- The steps that are faults, each in a state where only one thing is wrong.
 use Rattle.std.proofs.Common.{◌≡◌, refl, false, [], ◌∷◌, Some, None}
 use Rattle.geos_opcodes.specs.declared.opcode.Opcode.TheVariants.{Mnew, Mlock, Munlock, Sne, Lalloc, Lsize, Deref, Lcontract, Ldb, Ldw, Stb, Stxw, Ldxb, Ldcb, Stcw, Movp, Copy, Plen, Caadd, Cadel, Cacount, Caelt, Vnew, Vlock, Vdirty, Vunlock, Vupdate, Vsave, Vrevert, Ilock, Idirty, Iunlock}
 use Rattle.geos_opcodes.specs.declared.uses.Kind.TheVariants.{VmBlock, DbGroup}

@@ -95,7 +95,7 @@ refusing_computed = record {
 abbrev pub four : Memory
 four = next (vnew 9) (next gnew (next (vnew 5) (next (vnew 5) start)))
 
--- what is told of blocks
+-- what calls return about blocks
 pub record Telling : Type 0 where
   pub uid : says (vuid 4) four ≡ Ok 9
   pub group_uid : says (vuid 3) four ≡ Ok 65280

@@ -11,8 +11,8 @@ use Rattle.geos_semantics.specs.State.{State}
 use Rattle.geos_semantics.specs.Model.{Outcome, Next, step}
 use Rattle.worked_examples.proofs.States.{willing, alone, bytes, few_bytes, memory, held, leads, registers, before}
 
--- one thing alone is refused from outside: room for what is brought, room to grow, the device, or
--- the device where it is unsure then
+-- only one thing is refused from outside: room for a block that is brought, room to grow, the device, or the device
+-- so late that the file becomes unsure
 abbrev pub no_place : Choice
 no_place = record willing { first_room = true }
 
@@ -25,7 +25,7 @@ no_device = record willing { device = true }
 abbrev pub late : Choice
 late = record willing { device = true; unsure = true }
 
--- chunk 16 alone, and no chunk
+-- only chunk 16; and no chunk
 abbrev pub one : List (Option (List ℕ))
 one = Some bytes ∷ None ∷ []
 

@@ -43,7 +43,7 @@ lock-sound base s a held own S within empty is few =
 -- memory with no block, and with a block of the file under handle 1 and a group under handle 2,
 -- both marked
 abbrev none : Memory
-none = record { blocks = replicate 1024 None; file = empty_file 0; region = 65536 }
+none = record { blocks = replicate 1024 None; file = empty_file 0; region = 65536; handles = 1024 }
 
 abbrev one : Memory
 one = with_listed none 1 (Some (new_listed 5 0))
@@ -74,7 +74,7 @@ two-idle : (h : ℕ) → locks_of two (vm h) ≡ 0
 two-idle h = entry-kept IsIdle one.file.cur.blocks 2 h (Some (new_listed 65280 0)) None
     refl (entry-kept IsIdle none.file.cur.blocks 1 h (Some (new_listed 5 0)) None refl (none-idle h))
 
--- nothing is held
+-- all slots are empty
 abbrev pub idle : State
 idle = record {
   memory = two;

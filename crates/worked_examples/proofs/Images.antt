@@ -69,7 +69,7 @@ two_and_main of_two of_main = record {
       ∷ [];
 }
 
--- the same in the other order: `main` calls the routine behind it
+-- the same in the other order: `main` calls the routine after it
 abbrev pub main_and_two : Parts
 main_and_two = record {
   keyed = false;
@@ -83,9 +83,9 @@ main_and_two = record {
       ∷ [];
 }
 
--- `counts`: `SETK k0 0`, `RET`; `between`: `CALL counts`, `RET`; and a loop that calls `between`
--- in each turn: `SETK k 3`, `a: CALL between`, `LOOP k a`, `RET`; with its counter, and the
--- potential of a constant and the counter's coefficient
+-- `counts`: `SETK k0 0`, `RET`. `between`: `CALL counts`, `RET`. A loop that calls `between` in each iteration: `SETK
+-- k 3`, `a: CALL between`, `LOOP k a`, `RET`. The arguments are its counter, and the potential of a constant and the
+-- counter's coefficient
 abbrev pub loop_of_calls : ℕ → (ℕ → ℕ → Potential) → Parts
 loop_of_calls k counting = record {
   keyed = false;

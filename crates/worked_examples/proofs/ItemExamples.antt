@@ -165,7 +165,7 @@ stale_computed = record {
   by_isetmap = refl;
 }
 
--- the map item: its group goes, and with it the map item; the item alone goes, and it stays
+-- if the group of the map item is freed, there is no map item; if only the item is freed, the map item stays
 pub record Maps : Type 0 where
   pub none : says igetmap beside ≡ Ok (0, 0)
   pub set : says igetmap (next (isetmap 1 16) beside) ≡ Ok (1, 16)
@@ -193,7 +193,7 @@ maps_computed = record {
   block = refl;
 }
 
--- on a file just made: a group, an item in it, which becomes the map item, until the group goes
+-- in a new file: a group, and an item in it, which is the map item until the group is freed
 pub record Fresh : Type 0 where
   pub group : says igetmap (next (isetmap 1 16) (next (inew 1 4) (next gnew start))) ≡ Ok (1, 16)
   pub gone : says igetmap (next (gfree 1) (next (isetmap 1 16) (next (inew 1 4) (next gnew start)))) ≡ Ok (0, 0)

@@ -31,17 +31,16 @@ pub record Judged : Type 0 where
   pub add_over_budget : judged (add 4) ≡ Some OverBudget ∷ None ∷ None ∷ None ∷ None ∷ []
   pub outputs_accepted : judged (outputs 2052 2 2) ≡ None ∷ None ∷ None ∷ None ∷ []
   pub outputs_over_budget : judged (outputs 2051 2 2) ≡ Some OverBudget ∷ None ∷ None ∷ None ∷ []
-  -- the LOOP's constant does not pay for the RET behind it, nor with its coefficient for the
-  -- way back
+  -- the LOOP's constant does not pay for the RET after it, nor its constant and coefficient for the edge back
   pub outputs_unpaid_loop : judged (outputs 2052 1 2) ≡ None ∷ None ∷ Some EdgeUnpaid ∷ None ∷ []
-  -- with no coefficient, nothing pays for the way back
+  -- without a coefficient, nothing pays for the edge back
   pub outputs_no_coefficient : judged (outputs 2052 2 0) ≡ None ∷ None ∷ Some EdgeUnpaid ∷ None ∷ []
   pub call_accepted : judged (two_and_main 2 5) ≡ None ∷ None ∷ None ∷ None ∷ None ∷ []
   pub call_over_budget : judged (two_and_main 2 4) ≡ None ∷ None ∷ Some OverBudget ∷ None ∷ None ∷ []
   -- the CALL would have to pay 3 for `two`
   pub call_unpaid : judged (two_and_main 3 5) ≡ None ∷ None ∷ Some EdgeUnpaid ∷ None ∷ None ∷ []
   pub call_of_higher : judged main_and_two ≡ Some CallMisfit ∷ None ∷ None ∷ None ∷ None ∷ []
-  -- a counter that is set two calls down pays for nothing behind the CALL
+  -- a counter that a routine two calls down sets pays for nothing after the CALL
   pub call_in_its_loop : judged loop_by_k0 ≡ None ∷ None ∷ None ∷ None ∷ None ∷ Some EdgeUnpaid ∷ None ∷ None ∷ []
   pub call_in_a_loop : judged loop_by_k1 ≡ None ∷ None ∷ None ∷ None ∷ None ∷ None ∷ None ∷ None ∷ []
 

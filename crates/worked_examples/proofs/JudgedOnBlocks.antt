@@ -16,7 +16,7 @@ use Rattle.worked_examples.proofs.Judged.{judged}
 abbrev pub fine : ℕ → List (Option Rule)
 fine n = replicate n None
 
--- one point that is refused, so many behind it, and so many behind that
+-- n pcs that are accepted, one that is refused, and `rest` pcs that are accepted
 abbrev pub refused_at : ℕ → Rule → ℕ → List (Option Rule)
 refused_at n rule rest = fine n ++ Some rule ∷ fine rest
 
@@ -68,7 +68,7 @@ pub record JudgedOnBlocks : Type 0 where
   pub update_over_held : judged (with_row (s0 (Vm true false)) (instr Vupdate 0 0 0 0 1)) ≡ refused_at 0 CommitsHeld 1
   pub save_over_held : judged (with_row (s0 (Vm false false)) (instr Vsave 0 0 0 0 1)) ≡ refused_at 0 CommitsHeld 1
   pub revert_over_group : judged (with_row (s0 (Db false)) (instr Vrevert 0 0 0 0 1)) ≡ refused_at 0 CommitsHeld 1
-  -- a block of global memory may be held
+  -- a slot may have a block of global memory
   pub update_beside_memory : judged (with_row (s0 Mem) (instr Vupdate 0 0 0 0 1)) ≡ fine 2
   pub names_empty : judged (with_row left_behind (instr Movp 0 0 0 0 0)) ≡ Some NamesEmptySlot ∷ Some NamesEmptySlot ∷ []
 

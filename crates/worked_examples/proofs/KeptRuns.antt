@@ -47,7 +47,7 @@ after_commit keeper memory = (outcome (effect_of (commit keeper) willing memory)
 
 -- no block and an empty VM file, and the memory after each command of the script
 abbrev pub at_first : Memory
-at_first = record { blocks = []; file = empty_file 512; region = 65536 }
+at_first = record { blocks = []; file = empty_file 512; region = 65536; handles = 1024 }
 
 abbrev pub put_once : Memory
 put_once = after_put at_first
@@ -61,7 +61,8 @@ put_twice = after_put saved_once
 abbrev pub updated : Memory
 updated = after_commit keep_current put_twice
 
--- what the file keeps: as the definition of scripts has it, before the first command, along each call, and before and behind each commit
+-- the committed pairs, as the definition of scripts lists them: before the first command, along each call, and before
+-- and after each commit
 abbrev pub keeps : List Kept
 keeps =
     at_first.file.kept

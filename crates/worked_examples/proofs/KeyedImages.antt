@@ -1,5 +1,5 @@
--- The image of `add` in version 2, which gives rows at key places alone: its bytes, where the first fault is in bytes that
--- spell none, and what the rules say of it.
+-- The image of `add` in version 2, which has rows only at key places: its bytes, the position of the first fault in
+-- bytes that encode no image, and the rules' verdicts.
 use Rattle.std.proofs.Common.{◌≡◌, refl, ℕ, true, List, [], ◌∷◌, ◌++◌, length, take, set, replicate, Some, None}
 use Rattle.std.specs.Prelude.{Ok, Err}
 use Rattle.geos_opcodes.specs.declared.opcode.Opcode.TheVariants.{Ldi, Add, Out, Ret}
@@ -56,7 +56,8 @@ unfolding image_at header_at routines_at routine_at name_at is_name_byte count_a
     fields_at bare_points_at keyed_at potential_at
 examples = record { spelled_len = refl; spelled_read = refl; cut_at_333 = refl; one_byte_more = refl; other_version = refl; narrowed_read = refl }
 
--- what the rules say of each pc: what is computed behind the OUT, a sum of at most 5, does not fit a row that asks for less
+-- the rules' verdict at each pc. The sum after the OUT is at most 5, which does not fit a row that requires a lower
+-- bound
 pub record KeyedJudged : Type 0 where
   pub accepted : judged (keyed_add open_row) ≡ None ∷ None ∷ None ∷ None ∷ None ∷ []
   pub misfit : judged (keyed_add narrow) ≡ None ∷ None ∷ None ∷ Some EdgeMisfit ∷ None ∷ []

@@ -68,7 +68,7 @@ element chunk start len = Some (record { slot = 0; reference = record { name = m
 pub record OnArrays : Type 0 where
   pub canew : stepped_here (instr Canew 2 6 0 5 7) ≡ with_w6 18
       (record arrays { memory = with_arrays varying fixed (Some few_bytes ∷ Some (0 ∷ 0 ∷ 5 ∷ 0 ∷ 0 ∷ 0 ∷ 8 ∷ 0 ∷ []) ∷ []); pointers = moved_second })
-  -- a third chunk asks for more entries, and the block for 16 bytes more
+  -- a third chunk needs more entries, and the block 16 bytes more
   pub canew_no_room : refused_here (instr Canew 0 6 0 5 7) ≡ refused 4 moved
   -- w1 is 1
   pub caadd : stepped_here (instr Caadd 0 0 1 0 7) ≡ on (varying_to (3 ∷ 0 ∷ 0 ∷ 0 ∷ 0 ∷ 0 ∷ 8 ∷ 0 ∷ 14 ∷ 0 ∷ 16 ∷ 0 ∷ 17 ∷ 0 ∷ 7 ∷ 8 ∷ 9 ∷ 0 ∷ []))

@@ -37,7 +37,7 @@ moved_on kind chunks = record (on_file kind true chunks) { pointers = leads 0 1 
 
 -- w0 is 16, w2 is 2, and w6 is 171 times 256 and 205; the chunk has 4 bytes
 pub record OnFile : Type 0 where
-  -- a block is sound in a slot of its own kind alone
+  -- a block is sound only in a slot of its own kind
   pub block : SlotIsSound (file_of VmBlock false []) (held_listed VmBlock)
   pub block_as_group : SlotIsSound (file_of VmBlock false []) (held_listed DbGroup) → ⊥
   pub group : SlotIsSound (file_of DbGroup false []) (held_listed DbGroup)

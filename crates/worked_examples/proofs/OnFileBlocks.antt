@@ -30,7 +30,7 @@ pub record OnFileBlocks : Type 0 where
   pub vlock_group : stepped_on (instr Vlock 3 2 0 0 7) ≡ refused 15 on_file
   pub vlock_full : stepped_from willing locked_full (instr Vlock 3 3 0 0 7) ≡ refused 7 locked_full
   pub vlock_no_room : stepped_from unwilling on_file (instr Vlock 3 1 0 0 7) ≡ refused 4 on_file
-  -- what is held is in memory, and has its room
+  -- a block in a slot is in memory, and has its room
   pub vlock_held : stepped_from unwilling on_file (instr Vlock 3 3 0 0 7) ≡ refused 11 on_file
   pub vlock_no_device : stepped_from no_device on_file (instr Vlock 3 1 0 0 7) ≡ refused 11 on_file
   pub vdirty : stepped_from willing (with_p3 1 held_clean) (instr Vdirty 3 0 0 0 0) ≡ on

@@ -27,7 +27,7 @@ moved chunks = with_s3 DbGroup 2 (listing (clean ∷ listed_as 65280 true 1 chun
 abbrev pub locked_full : State
 locked_full = listing (clean ∷ listed_as 65280 false 65535 one ∷ dirty 1 ∷ None ∷ [])
 
--- the step where the group is held
+-- the step if a slot has the group
 abbrev pub stepped_held : Instr → Outcome
 stepped_held i = stepped_from willing held_group i
 
@@ -44,7 +44,7 @@ pub record OnItems : Type 0 where
   pub gfree : stepped_on (instr Gfree 2 0 0 0 7) ≡ on (with_file (file (directory (clean ∷ None ∷ dirty 1 ∷ None ∷ []) 1 0 0)))
   pub gfree_no_group : stepped_on (instr Gfree 1 0 0 0 7) ≡ refused 1 on_file
   pub gfree_locked : stepped_from willing held_group (instr Gfree 2 0 0 0 7) ≡ refused 7 held_group
-  -- the group may be held by a slot or not
+  -- a slot may have the group or not
   pub inew : stepped_held (instr Inew 6 2 2 0 7) ≡ with_w6 18 (moved (Some bytes ∷ Some (0 ∷ 0 ∷ []) ∷ []))
   pub inew_idle : stepped_on (instr Inew 6 2 2 0 7) ≡ with_w6 18
       (listing (clean ∷ listed_as 65280 true 0 (Some bytes ∷ Some (0 ∷ 0 ∷ []) ∷ []) ∷ dirty 1 ∷ None ∷ []))

@@ -22,7 +22,7 @@ ending image r n = run image 0 (replicate n willing) 0 (begin image r (replicate
 abbrev pub ending_in_128 : Choice → Parts → ℕ → Ending
 ending_in_128 choice image n =
     run image 0 (replicate n choice) 0
-    (begin image 0 (replicate 8 0) (replicate 4 0) (record { blocks = None ∷ []; file = empty_file 0; region = 128 }))
+    (begin image 0 (replicate 8 0) (replicate 4 0) (record { blocks = None ∷ []; file = empty_file 0; region = 128; handles = 1024 }))
 
 -- the blocks that are left
 abbrev pub left : Ending → List (Option Block)
@@ -72,7 +72,7 @@ pub deref-after-refusal-runs : returned (ending_in_128 unwilling deref_after_ref
 unfolding cost word
 deref-after-refusal-runs = refl
 
--- a chunk of no bytes is as long as it is wanted, where nothing is wanted of it
+-- a chunk of no bytes is long enough for a pointer that requires none
 pub no-bytes-runs : returned (ending_in_128 willing (no_bytes 0 (instr Plen 3 0 0 0 0)) 8)
     ≡ (8, 1 ∷ 0 ∷ 16 ∷ 0 ∷ 0 ∷ 0 ∷ 0 ∷ 0 ∷ [], 0 ∷ []) ∷ []
 unfolding cost

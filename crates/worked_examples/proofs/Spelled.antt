@@ -1,4 +1,4 @@
--- What the image of `add` is in bytes, and where the first fault is in bytes that spell none.
+-- The bytes of the image of `add`, and the position of the first fault in bytes that encode no image.
 use Rattle.std.proofs.Common.{◌≡◌, refl, ℕ, List, [], ◌∷◌, ◌++◌, length, take, set}
 use Rattle.std.specs.Prelude.{Ok, Err}
 use Rattle.geos_image.specs.Spelling.{spelling}

@@ -30,7 +30,7 @@ alone i = record { keyed = false; routines = routine [] 9 9 ∷ []; points = poi
 
 -- no block, and no handle for one
 abbrev pub no_blocks : Memory
-no_blocks = record { blocks = []; file = empty_file 0; region = 65536 }
+no_blocks = record { blocks = []; file = empty_file 0; region = 65536; handles = 1024 }
 
 -- a block of 64 bytes that is locked so often
 abbrev pub block : ℕ → List (Option (List ℕ)) → Option Block
@@ -55,7 +55,7 @@ third = block 0 (None ∷ None ∷ [])
 
 -- a region of 256 bytes with these blocks
 abbrev pub region_of : List (Option Block) → Memory
-region_of blocks = record { blocks = blocks; file = empty_file 0; region = 256 }
+region_of blocks = record { blocks = blocks; file = empty_file 0; region = 256; handles = 1024 }
 
 -- the three blocks, and a handle that is free
 abbrev pub memory : Memory

@@ -1,5 +1,5 @@
--- Where room may be wanting beside blocks of both owners, and what is refused before it, computed
--- on examples.
+-- When there may be no room, with blocks of both owners in memory, and which refusals come before it, computed on
+-- examples.
 use Rattle.std.proofs.Common.{◌≡◌, ℕ, true, false, [], ◌∷◌, ◌++◌, replicate, None, refl}
 use Rattle.std.specs.Prelude.{Ok, Err}
 use Rattle.geos_terms.specs.declared.refusal.Refusal.TheVariants.{BadChunk, NoRoom, NoHandle, Locked, Reserved, Disk}
@@ -14,12 +14,13 @@ use Rattle.worked_examples.proofs.States.{unwilling}
 use Rattle.worked_examples.proofs.CallsInTurn.{crowded, start, answer_under, listing, sized_in_file}
 use Rattle.worked_examples.proofs.CallExamples.{sized}
 
--- in a region of n bytes: blocks of 64 and 128 bytes, each locked once; of the VM file a marked
--- block of 64 bytes, an idle one of 256, one of 512 that is locked and marked, an idle group of
--- 96 and a marked group of 80; behind them a free handle of each owner
+-- a region of n bytes with two blocks of 64 and 128 bytes, each locked once. The VM file has three blocks and two
+-- groups: a marked block of 64 bytes, an idle one of 256, a locked and marked one of 512, an idle group of 96 and a
+-- marked group of 80. Each owner has one more handle, which is free
 abbrev pub both : ℕ → Memory
 both n = record start {
   region = n;
+  handles = 1024;
   blocks = sized 64 1 ∷ sized 128 1 ∷ None ∷ [];
   file = record start.file {
     cur = listing (sized_in_file 5 64 true 0 ∷ sized_in_file 5 256 false 0 ∷ sized_in_file 5 512 true 1 ∷ sized_in_file
@@ -34,7 +35,8 @@ full = record (both 1) { file = record start.file { cur = listing (replicate 5 (
 -- each kind of call at its border: with one byte less of region room may be refused. What is in
 -- memory of others counts, 848 bytes in all, and locked ones, three in all, once more
 pub record Borders : Type 0 where
-  -- a block of global memory that is to have 336 bytes: 3 * 336 + 848 - 64 are 1,792
+  -- each kind of call at its border: with one byte less of region, the call may be refused for lack of room. Blocks
+  -- in memory count, 848 bytes in all; the three locked ones count once more, each with the size that the call needs
   pub grows : answer_under crowded (lalloc (mem 1) 300) (both 1791) ≡ Err NoRoom
   pub grown : answer_under crowded (lalloc (mem 1) 300) (both 1792) ≡ Ok 16
   -- one of the VM file that is to have 544: 3 * 544 + 848 - 512 are 1,968
@@ -53,10 +55,10 @@ pub record Borders : Type 0 where
   -- an idle group is, at the size that it has: 4 * 96 + 848 are 1,232
   pub brings_group : answer_under crowded (inew 4 4) (both 1231) ≡ Err NoRoom
   pub brought_group : answer_under crowded (inew 4 4) (both 1232) ≡ Ok 16
-  -- as it is for a lock, whatever item is wanted of it
+  -- the same for a lock, whatever item it names
   pub locks_group : answer_under crowded (ilock 4 40 4) (both 1231) ≡ Err NoRoom
   pub locked_group : answer_under crowded (ilock 4 40 4) (both 1232) ≡ Err BadChunk
-  -- and it grows to 144 where it is there: 4 * 144 + 848 are 1,424
+  -- an idle group that is brought grows to 144: 4 * 144 + 848 are 1,424
   pub grows_group : answer_under crowded (inew 4 120) (both 1423) ≡ Err NoRoom
   pub grown_group : answer_under crowded (inew 4 120) (both 1424) ≡ Ok 16
   -- a marked group is in memory; it grows to 144: 4 * 144 + 848 - 80 are 1,344
@@ -88,7 +90,7 @@ borders_computed = record {
   held_grown = refl;
 }
 
--- no room is asked for where a block is in memory and large enough, and none is refused then
+-- a call on a block that is in memory and large enough needs no room, so it is not refused
 pub record Roomy : Type 0 where
   pub fits : answer_under crowded (lalloc (mem 1) 40) (both 1) ≡ Ok 16
   pub marked : answer_under crowded (vlock 1) (both 1) ≡ Ok tt

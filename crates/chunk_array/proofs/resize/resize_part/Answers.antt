@@ -14,7 +14,7 @@ overflow_cast-at c = omega (arith, c.requires.within, c.requires.small)
 pub insert-requires : goal.insert-requires
 insert-requires c = c.requires.heap
 
--- the part grows by the zeros that are inserted behind it
+-- the part grows by the zeros that are inserted after it
 grown : (cs : List (Option (List ℕ))) (c at has n : ℕ) → at + has ≤ length (bytes_of cs c) → has ≤ n
     → with_inserted cs c (at + has) (n - has) ≡ with_bytes cs c (with_resized_part (bytes_of cs c) at has n)
 grown cs c at has n within more = ap (with_bytes cs c) (resized-grows (bytes_of cs c) at has n within more)

@@ -81,7 +81,7 @@ bytes_mut-requires g c =
     grown-there r.mid c.grow_room.new.blocks slot c.args.size (subst IsBlock (sym r.own) c.requires.holds.heap.there)
     (subst (Grows r.mid c.grow_room.new.blocks slot) c.from.ensures r.grows)
 
--- the block has the size that was asked for
+-- the block has the requested size
 wide : (g : Over) (c : After-bytes_mut g) → length c.bytes_mut.result.now ≡ c.args.size
 wide g c =
     let r = c.in-Ok.ensures.ok in

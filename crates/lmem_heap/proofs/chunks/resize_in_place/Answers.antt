@@ -16,7 +16,7 @@ use Rattle.lmem_heap.proofs.chunks.resize_in_place.Goals as goal
 pub of-chunk-requires : goal.of-chunk-requires
 of-chunk-requires c = heap-extent c.args.block.now c.args.i (packed-heap c.args.block.now c.requires.packed) c.requires.known c.requires.offset
 
--- the chunk and those behind it fit where they go
+-- the chunk and those after it fit in their new places
 place : (c : After-of-chunk) → InPlace c.args.block.now c.args.n c.of-chunk.result
 place c = in-place c.args.block.now c.args.i c.args.n c.of-chunk.result c.requires.packed c.requires.known
     c.requires.offset c.of-chunk.ensures c.requires.some c.requires.room

@@ -30,7 +30,7 @@ loop-next-init c =
       next = (c.requires.first, omega (arith, n));
     }
 
--- the run behind the gap has moved, and is listed
+-- the run after the gap has moved, and is listed
 one-more : (c : After-push) → SlidOneMore c.args.block.now c.slide-slide.new.block c.push.new.self.items
 one-more c =
     let gap = subst (Next c.loop-next.block (length c.loop-next.slides.items)) c.in-Some.is c.loop-next.invariant.next in

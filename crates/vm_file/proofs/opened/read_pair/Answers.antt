@@ -16,7 +16,7 @@ returns-in-Err-read_directory-clause-exact g c = λ h.
     pair_stop_first c.args.base (stretch (g.D.Device.medium.image c.args.device.now) c.args.base c.args.end)
     c.in-Err-read_directory.error (c.in-Err-read_directory.ensures.exact h)
 
--- the second directory, read behind the first
+-- the second directory, read after the first
 module _ (P : Result Contents ℕ → Type 0) (image then : List ℕ) (base end next : ℕ) (d : Directory) where
   pub second : next ≡ base + directory_length d → then ≡ image → base + directory_length d ≤ end
       → P (contents_at next (stretch then next end))

@@ -3,7 +3,7 @@ use Rattle.vm_file.specs.declared.directory.Entry.{Entry}
 use Rattle.vm_file.proofs.PlaceLaws.{PlacesFrom, handle_at, places-fit, places-more}
 use Rattle.vm_file.proofs.places.put_places.Goals as goal
 
--- what stands past the last entry
+-- the value of a lookup past the last entry
 abbrev blank : Entry
 blank = record { h = 0; uid = 0; len = 0 }
 

@@ -6,7 +6,7 @@ use Rattle.vm_file.proofs.ReadLaws.{count_ok}
 use Rattle.vm_file.proofs.ReadSteps.{front_count}
 use Rattle.vm_file.proofs.reader.read_count.Goals as goal
 
--- what the bytes in front of a stretch tell is what the stretch tells
+-- reading a stretch depends only on its first bytes
 told : (at : ℕ) (xs front : List ℕ) (r : Result ℕ ℕ) → front ≡ take 2 xs → r ≡ count_at at front → count_at at xs ≡ r
 told at xs front r is tells = sym (front_count at xs) ∙ ap (count_at at) (sym is) ∙ sym tells
 

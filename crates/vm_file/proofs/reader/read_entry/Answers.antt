@@ -11,15 +11,15 @@ use Rattle.vm_file.proofs.ReadSteps.{front_head, block_stops, block_short, block
 use Rattle.vm_file.proofs.Moments.{caused_on, reads_then, rose}
 use Rattle.vm_file.proofs.reader.read_entry.Goals as goal
 
--- what the bytes in front of a stretch tell is what the stretch tells
+-- reading a stretch depends only on its first bytes
 told : (last at : ℕ) (xs front : List ℕ) (r : Result Entry ℕ) → front ≡ take 6 xs → r ≡ head_at last at front → head_at last at xs ≡ r
 told last at xs front r is tells = sym (front_head last at xs) ∙ ap (head_at last at) (sym is) ∙ sym tells
 
--- the bytes behind the head
+-- the bytes after the head
 body : (image : List ℕ) (at end n : ℕ) → at + 6 + n ≤ end → take n (drop 6 (stretch image at end)) ≡ take n (drop (at + 6) image)
 body image at end n fits = ap (take n) (drop-stretch image at end 6 (omega arith)) ∙ take-stretch image (at + 6) end n fits
 
--- what was read behind the head, by way of the device as it was then
+-- what was read after the head, from the device as it was then
 same_bytes : (image then : List ℕ) (at end n m : ℕ) (block : List ℕ) → at + 6 + n ≤ end → m ≡ n → then ≡ image
     → block ≡ take m (drop (at + 6) then) → block ≡ take n (drop 6 (stretch image at end))
 same_bytes image then at end n m block fits len same is = is ∙ ap (λ k. take k (drop (at + 6) then)) len

@@ -7,7 +7,7 @@ use Rattle.vm_file.proofs.ReadLaws.{maps_ok}
 use Rattle.vm_file.proofs.ReadSteps.{front_maps}
 use Rattle.vm_file.proofs.reader.read_maps.Goals as goal
 
--- what the bytes in front of a stretch tell is what the stretch tells
+-- reading a stretch depends only on its first bytes
 told : (es : List Entry) (at : ℕ) (xs front : List ℕ) (r : Result (ℕ × (ℕ × ℕ)) ℕ) → front ≡ take 6 xs
     → r ≡ maps_at es at front → maps_at es at xs ≡ r
 told es at xs front r is tells = sym (front_maps es at xs) ∙ ap (maps_at es at) (sym is) ∙ sym tells

@@ -5,7 +5,7 @@ use Rattle.block_handles.proofs.Writes.{bytes_seen}
 use Rattle.block_handles.proofs.arena.Arena.bytes_mut.Goals as goal
 
 pub invariant_of-self-lent : goal.invariant_of-self-lent
-invariant_of-self-lent c w = (bytes_seen c.self.inside.most c.self.inside.region c.self.inside.table c.self.inside.index.items
+invariant_of-self-lent c w = (bytes_seen c.self.inside.limits c.self.inside.region c.self.inside.table c.self.inside.index.items
     c.args.self.now c.self.view_is c.self.invariant c.args.slot c.entry_of-entry.result
     c.entry_of-entry.ensures w).sound
 
@@ -13,7 +13,7 @@ pub returns : goal.returns
 returns c = (
   (
     refl,
-    λ w. (bytes_seen c.self.inside.most c.self.inside.region c.self.inside.table c.self.inside.index.items c.args.self.now
+    λ w. (bytes_seen c.self.inside.limits c.self.inside.region c.self.inside.table c.self.inside.index.items c.args.self.now
         c.self.view_is c.self.invariant c.args.slot c.entry_of-entry.result c.entry_of-entry.ensures w).is,
   ),
   record {

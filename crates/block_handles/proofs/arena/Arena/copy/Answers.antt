@@ -5,7 +5,7 @@ use Rattle.block_handles.proofs.Writes.{written_seen, reads_seen}
 use Rattle.block_handles.proofs.arena.Arena.copy.Goals as goal
 
 pub invariant_of-self : goal.invariant_of-self
-invariant_of-self c = (written_seen c.self.inside.most c.self.inside.region c.self.inside.table c.self.inside.index.items
+invariant_of-self c = (written_seen c.self.inside.limits c.self.inside.region c.self.inside.table c.self.inside.index.items
     c.args.self.now c.self.view_is c.self.invariant c.args.to (part c.self.inside.region c.args.from c.args.count)
     c.move_bytes.new.self c.move_bytes.ensures).sound
 
@@ -15,8 +15,8 @@ returns c =
     record {
       bytes = part c.self.inside.region c.args.from c.args.count;
       long = length-part c.self.inside.region c.args.from c.args.count room;
-      read = reads_seen c.self.inside.most c.self.inside.region c.self.inside.table c.self.inside.index.items c.args.self.now
+      read = reads_seen c.self.inside.limits c.self.inside.region c.self.inside.table c.self.inside.index.items c.args.self.now
           c.self.view_is c.self.invariant c.args.from c.args.count room;
-      wrote = (written_seen c.self.inside.most c.self.inside.region c.self.inside.table c.self.inside.index.items c.args.self.now
+      wrote = (written_seen c.self.inside.limits c.self.inside.region c.self.inside.table c.self.inside.index.items c.args.self.now
           c.self.view_is c.self.invariant c.args.to (part c.self.inside.region c.args.from c.args.count) c.move_bytes.new.self c.move_bytes.ensures).is;
     }

@@ -7,7 +7,7 @@ use Rattle.block_handles.proofs.arena.Arena.read.Goals as goal
 pub returns-clause-read : goal.returns-clause-read
 returns-clause-read c =
     subst (ReadsAs c.args.self.now c.args.at) (sym c.slice.ensures)
-    (reads_seen c.self.inside.most c.self.inside.region c.self.inside.table c.self.inside.index.items c.args.self.now c.self.view_is
+    (reads_seen c.self.inside.limits c.self.inside.region c.self.inside.table c.self.inside.index.items c.args.self.now c.self.view_is
     c.self.invariant c.args.at c.args.n (subst (λ s. c.args.at + c.args.n ≤ s.len.region) (sym c.self.view_is) c.requires))
 
 pub returns-clause-long : goal.returns-clause-long

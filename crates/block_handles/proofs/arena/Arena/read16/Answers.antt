@@ -4,6 +4,6 @@ use Rattle.block_handles.proofs.arena.Arena.read16.Goals as goal
 
 pub returns : goal.returns
 returns c = λ low high first second. c.get16.ensures
-    ∙ (λ k. byte_seen c.self.inside.most c.self.inside.region c.self.inside.table c.self.inside.index.items c.args.self.now
-    c.self.view_is c.self.invariant low c.args.at first k + 256 * byte_seen c.self.inside.most c.self.inside.region c.self.inside.table
+    ∙ (λ k. byte_seen c.self.inside.limits c.self.inside.region c.self.inside.table c.self.inside.index.items c.args.self.now
+    c.self.view_is c.self.invariant low c.args.at first k + 256 * byte_seen c.self.inside.limits c.self.inside.region c.self.inside.table
     c.self.inside.index.items c.args.self.now c.self.view_is c.self.invariant high (c.args.at + 1) second k)

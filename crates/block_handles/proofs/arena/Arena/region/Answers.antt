@@ -11,4 +11,4 @@ returns-clause-region c =
     let all : c.slice-all.result.now ≡ region = c.slice-all.ensures ∙ ap (part region 0) c.len.ensures
     ∙ take_all (length region) region (omega arith) in
     subst (λ s. IsRegion s c.slice-all.result.now) c.self.view_is
-    (subst (IsRegion _) (sym all) (region-of c.self.inside.most region c.self.inside.table c.self.invariant.lies))
+    (subst (IsRegion _) (sym all) (region-of c.self.inside.limits region c.self.inside.table c.self.invariant.lies))

@@ -6,7 +6,7 @@ use Rattle.block_handles.proofs.arena.Arena.relocate.Goals as goal
 
 pub fill-requires : goal.fill-requires
 fill-requires c =
-    let size = size_seen c.self.inside.most c.self.inside.region c.self.inside.table c.self.inside.index.items c.args.self.now
+    let size = size_seen c.self.inside.limits c.self.inside.region c.self.inside.table c.self.inside.index.items c.args.self.now
     c.self.view_is c.self.invariant c.args.slot c.entry_of-entry.result c.entry_of-entry.ensures in
     omega (
       arith,
@@ -19,7 +19,7 @@ fill-requires c =
     )
 
 pub invariant_of-self : goal.invariant_of-self
-invariant_of-self c = (relocate_put c.self.inside.most c.self.inside.region c.self.inside.table c.self.inside.index.items
+invariant_of-self c = (relocate_put c.self.inside.limits c.self.inside.region c.self.inside.table c.self.inside.index.items
     c.args.self.now c.self.view_is c.self.invariant c.args.slot c.entry_of-entry.result
     c.entry_of-entry.ensures c.args.to c.args.size c.requires.legal c.requires.room
     c.requires.free c.fill.new.self (c.fill.ensures
@@ -27,7 +27,7 @@ invariant_of-self c = (relocate_put c.self.inside.most c.self.inside.region c.se
     c.move_to.ensures) c.put_place.new.self c.put_place.ensures).sound
 
 pub returns-clause-store : goal.returns-clause-store
-returns-clause-store c = (relocate_put c.self.inside.most c.self.inside.region c.self.inside.table c.self.inside.index.items
+returns-clause-store c = (relocate_put c.self.inside.limits c.self.inside.region c.self.inside.table c.self.inside.index.items
     c.args.self.now c.self.view_is c.self.invariant c.args.slot c.entry_of-entry.result
     c.entry_of-entry.ensures c.args.to c.args.size c.requires.legal c.requires.room
     c.requires.free c.fill.new.self (c.fill.ensures
@@ -35,7 +35,7 @@ returns-clause-store c = (relocate_put c.self.inside.most c.self.inside.region c
     c.move_to.ensures) c.put_place.new.self c.put_place.ensures).is
 
 pub returns-clause-laid : goal.returns-clause-laid
-returns-clause-laid c = (relocate_put c.self.inside.most c.self.inside.region c.self.inside.table c.self.inside.index.items
+returns-clause-laid c = (relocate_put c.self.inside.limits c.self.inside.region c.self.inside.table c.self.inside.index.items
     c.args.self.now c.self.view_is c.self.invariant c.args.slot c.entry_of-entry.result
     c.entry_of-entry.ensures c.args.to c.args.size c.requires.legal c.requires.room
     c.requires.free c.fill.new.self (c.fill.ensures
@@ -43,7 +43,7 @@ returns-clause-laid c = (relocate_put c.self.inside.most c.self.inside.region c.
     c.move_to.ensures) c.put_place.new.self c.put_place.ensures).laid
 
 pub entry_of-entry-requires : goal.entry_of-entry-requires
-entry_of-entry-requires c = (entry_seen c.self.inside.most c.self.inside.region c.self.inside.table
+entry_of-entry-requires c = (entry_seen c.self.inside.limits c.self.inside.region c.self.inside.table
     c.self.inside.index.items c.args.self.now c.self.view_is c.self.invariant c.args.slot c.requires.there)
 
 pub move_to-requires : goal.move_to-requires
@@ -51,13 +51,13 @@ move_to-requires c =
     let len = ap (λ s. s.len.region) c.self.view_is in (
       omega (
         arith,
-        lies_seen c.self.inside.most c.self.inside.region c.self.inside.table c.self.inside.index.items c.args.self.now
+        lies_seen c.self.inside.limits c.self.inside.region c.self.inside.table c.self.inside.index.items c.args.self.now
             c.self.view_is c.self.invariant c.args.slot c.entry_of-entry.result c.entry_of-entry.ensures,
         len,
       ),
       omega (
         arith,
-        size_seen c.self.inside.most c.self.inside.region c.self.inside.table c.self.inside.index.items c.args.self.now
+        size_seen c.self.inside.limits c.self.inside.region c.self.inside.table c.self.inside.index.items c.args.self.now
             c.self.view_is c.self.invariant c.args.slot c.entry_of-entry.result c.entry_of-entry.ensures,
         c.requires.legal.0,
         c.requires.room,
@@ -68,7 +68,7 @@ move_to-requires c =
 pub overflow_add-to : goal.overflow_add-to
 overflow_add-to c = omega (
   arith,
-  size_seen c.self.inside.most c.self.inside.region c.self.inside.table c.self.inside.index.items
+  size_seen c.self.inside.limits c.self.inside.region c.self.inside.table c.self.inside.index.items
       c.args.self.now c.self.view_is c.self.invariant c.args.slot c.entry_of-entry.result c.entry_of-entry.ensures,
   c.requires.legal.0,
   c.requires.room,
@@ -79,18 +79,18 @@ overflow_add-to c = omega (
 pub overflow_sub-size : goal.overflow_sub-size
 overflow_sub-size c = omega (
   arith,
-  size_seen c.self.inside.most c.self.inside.region c.self.inside.table c.self.inside.index.items
+  size_seen c.self.inside.limits c.self.inside.region c.self.inside.table c.self.inside.index.items
       c.args.self.now c.self.view_is c.self.invariant c.args.slot c.entry_of-entry.result c.entry_of-entry.ensures,
   c.requires.legal.0,
 )
 
 pub index_mut-requires : goal.index_mut-requires
 index_mut-requires c =
-    let low = lies_seen c.self.inside.most c.self.inside.region c.self.inside.table c.self.inside.index.items c.args.self.now
+    let low = lies_seen c.self.inside.limits c.self.inside.region c.self.inside.table c.self.inside.index.items c.args.self.now
     c.self.view_is c.self.invariant c.args.slot c.entry_of-entry.result c.entry_of-entry.ensures in
     omega (
       arith,
-      granule_seen c.self.inside.most c.self.inside.region c.self.inside.table c.self.inside.index.items c.args.self.now
+      granule_seen c.self.inside.limits c.self.inside.region c.self.inside.table c.self.inside.index.items c.args.self.now
           c.self.view_is c.self.invariant c.args.slot c.entry_of-entry.result.place (omega (arith, low)),
       c.self.inside.index.ok.0,
     )

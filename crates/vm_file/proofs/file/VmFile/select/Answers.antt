@@ -227,7 +227,7 @@ selected g c =
     (current_legal c.args.how c.args.cur.now i.saved c.requires.legal c.self.invariant.saved)
     (saved_legal c.args.how c.args.cur.now i.saved c.requires.legal c.self.invariant.saved) (sym (subst L (sym c.self.view_is) c.requires.fits.0))
 
--- what holds with the directories to be kept holds with those that are kept
+-- what is true of the directories to be committed is true of those that are committed
 module _ (x y : Directory) (P : Directory → Directory → Type 0) where
   kept : (a b : Directory) → a ≡ x → b ≡ y → P x y → P a b
   kept a b a_is b_is h = (let Q : Directory → Type 0 = λ z. P z y in subst (P a) (sym b_is) (subst Q (sym a_is) h))
@@ -344,7 +344,7 @@ returns-in-Err-write_durably-clause-torn g c =
     subst G c.self.view_is (λ h. written_both d.medium.image f (d.medium.image c.write_area.new.device) _ n
     (subst A (sym c.self.view_is) c.requires.fits.1) (w.torn h) (c.write_durably.ensures.writes.torn (w.stays h)))
 
--- what is said of the device is said of it as the file's fields have it
+-- what is true of the device is true of it as a field of the file
 module _ (g : Over) (before seen : FileState g.row.D.Denot) (same : before ≡ seen) where
   stays : (new : g.row.D.Denot) → (g.D.Device.medium.honest before.device → g.D.Device.medium.honest new)
       → g.D.Device.medium.honest seen.device → g.D.Device.medium.honest new

@@ -70,7 +70,7 @@ returns-in-Ok-spell_saved-clause-spelled g c = λ h.
     subst S (sym c.in-Revert.is) (spells_pair old.saved old.saved x x _ (c.put_again-in-Ok-spell_saved.ensures.items
     ∙ ap (λ xs. xs ++ xs) (one.items h ∙ ap (λ xs. xs ++ contents_spelling x) c.requires.empty.0)) (one.legal h) (one.legal h))
 
--- what is asked of the room, where it is known which pair is kept
+-- the room that is required, once it is known which pair is committed
 room_of : (how way : How) (cur saved : Directory) (room : ℕ) → how ≡ way → length_after how cur saved ≤ room → length_after way cur saved ≤ room
 room_of how way cur saved room is fits = subst (λ (k : How). length_after k cur saved ≤ room) is fits
 
@@ -130,7 +130,7 @@ returns-in-Err-spell_saved-clause-no_read g c =
     let N : How → Type 0 = λ k. NeedsNoRead (g.S.Source.resident_bytes c.args.source.now) k c.args.cur.now c.args.self.now.saved → ⊥ in
     subst N (sym c.in-Revert.is) c.in-Err-spell_saved.ensures.no_read
 
--- an entry is one of those that are kept, where it is known which pair is
+-- an entry belongs to the pair to be committed, once it is known which pair this is
 kept_here : (how way : How) (cur saved : Directory) (e : Entry) → how ≡ way → IsKept way cur saved e → IsKept how cur saved e
 kept_here how way cur saved e is = subst (λ (k : How). IsKept k cur saved e) (sym is)
 
