@@ -179,7 +179,7 @@ StopsEither medium old new = (f g : VmFile) → IsFileOf (medium.honest old.devi
 
 module _ {D : Type 0} (medium : Medium D) (old mid : KernelOn D) (way : Allows → Way) (same : (allows : Allows) → KeepsSame (way allows))
     (leads : LeadsOn medium old mid way) where
-  -- where nothing is kept but what was, it leaves the file as before
+  -- if the commit writes no new pair, the file has the committed pair of before
   as-before : (f : VmFile) → IsFileOf (medium.honest old.device) old.core f → medium.honest old.device
       → Throughout medium old.device mid.device (OpensAsKept f.kept)
   as-before f tied good =
@@ -192,7 +192,7 @@ module _ {D : Type 0} (medium : Medium D) (old mid : KernelOn D) (way : Allows �
       throughout-more medium old.device mid.device (OpensAsKept f.kept) (OpensAsOneOf (f.kept ∷ g.kept ∷ [])) (λ c opens. inl opens)
       (as-before f tied good)
 
-  -- and over a commit behind it as before or as after
+  -- and after a commit that follows, the pair of before or of after
   pub then-either : (new : KernelOn D) → (medium.honest old.device → medium.honest mid.device) → Stops medium mid new → StopsEither medium old new
   then-either new lasts stops f g tied after good =
       let l = leads f tied in

@@ -81,7 +81,7 @@ module _ (choice : Choice) (old new : Memory) where
       let parts = done-parts (irealloc g i n choice m) tt new comes in
       ap (λ (x : Memory). is_marked x g) (sym parts.1) ∙ rows_leave.marks (ChangesItem g (Lrealloc i n)) choice m tt parts.0
 
--- behind a place that was resized its block or group is marked
+-- after a resize, the block or group of the place is marked
 resizes-mark : (allows : Allows) (place : Place) (n : ℕ) (before after : Stage) (keeps : List Kept) → Resizes allows place n before after keeps
     → is_marked after.memory (handle_of place) ≡ true
 resizes-mark allows (Chunk h c) n before after keeps (resized, k1, r1, (marked, k2, r2, (locked, k3, r3, L, M, e3), R, e2), U, e1) =
@@ -98,7 +98,7 @@ opens-keep allows (Chunk h c) n ref before after keeps (locked, k, r, L, F, e) =
 opens-keep allows (Item g i) n ref before after keeps w = item-keeps w.0 before.memory after.memory i n g ref w.2
 
 module _ {D : Type 0} (medium : Medium D) (old new : KernelOn D) (place : Place) where
-  -- so it has a mark behind a resize
+  -- so the kernel's block is marked after a resize
   resized-mark : (n : ℕ) (f : VmFile) → IsFileOf (medium.honest old.device) old.core f → (medium.honest new.device ↔ medium.honest old.device)
       → LeadsOn medium old new (λ allows. Resizes allows place n) → HasMark medium new (handle_of place)
   resized-mark n f tied alike leads =

@@ -12,7 +12,7 @@ use Rattle.geos_cli.specs.declared.bytes.Place.{Place}
 use Rattle.geos_cli.specs.Bytes.{EndsWithUpdate, IsUnwritten, Puts}
 use Rattle.geos_cli.specs.Script.{LeadsOn}
 
--- nothing was written where nothing was asked
+-- an unchanged device was not written
 pub not_asked : {D : Type 0} (medium : Medium D) (old new : D) → new ≡ old → IsUnwritten medium old new
 not_asked medium old new same = subst (λ d. IsUnwritten medium old d) (sym same) (record { same = refl; stays = λ h. h; stop = λ h c l. l })
 
@@ -31,7 +31,7 @@ unwritten_on medium old mid new first second =
           λ h c l. first.stop h c (second.stop (first.stays h) c l);
     }
 
--- nor by a call that leaves the file alone
+-- nor was the device of a call that does not touch the file
 pub left_alone : {D : Type 0} (medium : Medium D) (old new : KernelOn D) → LeavesVm old new → IsUnwritten medium old.device new.device
 left_alone medium old new leaves = not_asked medium old.device new.device leaves.device
 
@@ -45,7 +45,7 @@ pub err-passed : {A E : Type 0} (P : Result A E → Type 0) (result : Result A E
 err-passed P (Ok x) e same h = absurd same
 err-passed P (Err x) e same h = subst (λ y. P (Err y)) (sym same) h
 
--- an update behind bytes that were put
+-- an update after bytes were put
 pub updated : {D : Type 0} (medium : Medium D) (place : Place) (at : Option ℕ) (bytes : List ℕ) (old between new : KernelOn D)
     (result : Result (Unit {0}) Refusal)
     → LeadsOn medium old between (λ allows. Puts allows place at bytes) → IsUnwritten medium old.device between.device

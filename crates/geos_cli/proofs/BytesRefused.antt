@@ -68,7 +68,7 @@ module _ {D : Type 0} (medium : Medium D) (old mid new : KernelOn D) (alike : me
   more : (before after : ℕ) (choice : Choice) → was before after choice → now before after choice
   more = as_much medium old mid new alike
 
-  -- a place is not opened behind it
+  -- then a place is not opened
   then-not-opened : (first : Way) (place : Place) (n : ℕ) (why : Refusal)
       → Leads (medium.honest old.device) (Throughout medium old.device mid.device) old.core mid.core first
       → LeadsOn medium mid new (λ allows. NotOpened allows place n why)

@@ -100,7 +100,7 @@ module _ {D : Type 0} (medium : Medium D) (old mid new : KernelOn D) (alike : me
   abbrev now : Allows
   now = IsAllowed (medium.honest old.device)
 
-  -- a way behind another, where more is allowed than it needs
+  -- one transition after another, where the wider transition allows more than the second
   pub on-way : (first second wide : Way) → Wider second wide
       → Leads (medium.honest old.device) (Throughout medium old.device mid.device) old.core mid.core first
       → Leads (medium.honest mid.device) (Throughout medium mid.device new.device) mid.core new.core second
@@ -114,21 +114,21 @@ module _ {D : Type 0} (medium : Medium D) (old mid new : KernelOn D) (alike : me
   pub as_much : (before after : ℕ) (choice : Choice) → was before after choice → now before after choice
   as_much = allowed-alike (medium.honest mid.device) (medium.honest old.device) alike
 
-  -- a call of the kernel behind a way
+  -- then a call of the kernel
   pub then-comes : {A : Type 0} (first : Way) (row : Call A) (result : Result A Refusal)
       → Leads (medium.honest old.device) (Throughout medium old.device mid.device) old.core mid.core first
       → LeadsOn medium mid new (λ allows. Comes allows row result)
       → Leads (medium.honest old.device) (Throughout medium old.device new.device) old.core new.core (Then first (Comes now row result))
   then-comes first row result A B = on-way first (Comes was row result) (Comes now row result) (comes-wider was now as_much row result) A B
 
-  -- bytes are read behind it
+  -- then bytes are read
   pub then-reads : (first : Way) (ref : Reference) (i : ℕ) (bytes : List ℕ)
       → Leads (medium.honest old.device) (Throughout medium old.device mid.device) old.core mid.core first
       → LeadsOn medium mid new (λ allows. Reads allows ref i bytes)
       → Leads (medium.honest old.device) (Throughout medium old.device new.device) old.core new.core (Then first (Reads now ref i bytes))
   then-reads first ref i bytes A B = on-way first (Reads was ref i bytes) (Reads now ref i bytes) (reads-wider was now as_much ref i bytes) A B
 
-  -- bytes are written there behind it
+  -- then bytes are written there
   pub then-writes : (first : Way) (place : Place) (at : ℕ) (bytes : List ℕ)
       → Leads (medium.honest old.device) (Throughout medium old.device mid.device) old.core mid.core first
       → LeadsOn medium mid new (λ allows. Writes allows place at bytes)
@@ -196,7 +196,7 @@ module _ (h : ℕ) (choice : Choice) (old new : Memory) where
       ap (λ (x : Memory). locks_of x (vm h)) (refused-left (first_refusal row.refusals) m row.answer row.after why new comes)
       ∙ rows_leave.given_counts choice.given old (vm h)
 
--- so the kernel's block is locked behind them
+-- so the kernel's block is locked afterwards
 module _ {D : Type 0} (medium : Medium D) (old new : KernelOn D) (h : ℕ) (f : VmFile) (tied : IsFileOf (medium.honest old.device) old.core f)
     (same : locks_of (memory_of old.core f) (vm h) ≡ blocks.locks_of old.core.blocks (slot_of (vm h)))
     (same_after : (g : VmFile) → IsFileOf (medium.honest old.device) new.core g

@@ -17,7 +17,7 @@ use Rattle.script_commands.specs.Lines.{call_named, on_line}
 use Rattle.geos_cli.specs.Script.{From, IsAllowed, IsBadImage, Leads, RanCommands, StoppedCommands}
 use Rattle.geos_cli.specs.Calls.{Asks, CallEndsBy, RanCall, RunsCall, StoppedCall, StopsCall}
 
--- a call that words name is asked for, of an image that was read and accepted
+-- a call that words name may run on an image that was read and accepted
 pub asks : (bytes name : List ℕ) (words : List (List ℕ)) (image : Parts) (found : Option Call) (call : Call)
     → (image_at bytes ≡ Ok image) × Accepted image → found ≡ call_named image name words → found ≡ Some call → Asks bytes name words image call
 asks bytes name words image found call read named is = record { read = read.0; accepted = read.1; named = sym named ∙ is }

@@ -59,7 +59,7 @@ abbrev pub RunsCall : Type 0 → Within → Parts → Call → Outcome → Kerne
 RunsCall honest within image call outcome kernel later =
     (f : VmFile) → IsFileOf honest kernel f → RanWithin honest within image call.routine call.words call.handles kernel later outcome f
 
--- a stop in between leaves what the model has as kept beside the one, or beside the other
+-- a stop in between leaves the committed pair of one of the two kernels' models
 abbrev pub StopsBetween : Type 0 → Within → KernelState → KernelState → Type 0
 StopsBetween honest within kernel later =
     (f g : VmFile) → IsFileOf honest kernel f → IsFileOf honest later g → honest → within (OpensAsOneOf (f.kept ∷ g.kept ∷ []))
@@ -220,7 +220,7 @@ ran-none mode honest within image kernel a started = ([], leads, Appends-nil a)
       stops = started f tied;
     }
 
--- behind the last one
+-- after the last command, all have run
 pub ran-all : (mode : Mode) (honest : Type 0) (within : Within) (image : Parts) (commands : List Numbered) (k : ℕ) (kernel later : KernelState)
     (a b : Option (List ℕ)) → length commands ≤ k → RanCommands mode honest within image (take k commands) None kernel later a b
     → RanCommands mode honest within image commands None kernel later a b
@@ -234,12 +234,12 @@ pub ran-kept : (mode : Mode) (honest : Type 0) (within : Within) (image : Parts)
     → RanCommands mode honest within image commands None kernel later a c
 ran-kept mode honest within image commands kernel later a b c (text, leads, appends) kept = (text, leads, Appends-kept a b c text appends kept)
 
--- commands stand before the one at k, and behind it
+-- the commands are those before index k, the one at k, and those after it
 split-at : (commands : List Numbered) (k : ℕ) (default : Numbered) → k < length commands
     → commands ≡ take k commands ++ (get_or commands k default ∷ drop (suc k) commands)
 split-at commands k default in_range = sym (take-append-drop k commands) ∙ ap (λ cs. take k commands ++ cs) (drop-cons commands k default in_range)
 
--- behind one more command, that one is the last
+-- after one more command, that one is the last
 last-added : (image : Parts) (done : List Numbered) (here : Numbered) → last_may_commit image (done ++ here ∷ []) ≡ may_commit image here.command
 last-added image [] here = refl
 last-added image (x ∷ []) here = refl
@@ -285,7 +285,7 @@ stopped-ahead mode honest within image commands k default kernel later a b in_ra
           stops = earlier.stops;
         }
 
--- what is kept in one of some states is kept in one of more
+-- a committed pair of some states is one of more states
 pub one-left : (xs ys : List Kept) (c : List ℕ) → OpensAsOneOf xs c → OpensAsOneOf (xs ++ ys) c
 one-left [] ys c h = absurd h
 one-left (x ∷ xs) ys c (inl opens) = inl opens
@@ -308,7 +308,7 @@ module _ (mode : Mode) (honest : Type 0) (within next whole : Within) (join : Jo
   abbrev here : Numbered
   here = get_or commands k default
 
-  -- one more command was carried out, and printed, and the script goes on
+  -- one more command ran and was printed, and the script continues
   pub ran-more : (result : Result (Unit {0}) Refusal) → GoesOn mode result
       → RanCommands mode honest within image (take k commands) None kernel mid a b → RanCommand honest next image here.command result mid later b c
       → RanCommands mode honest whole image (take (k + 1) commands) None kernel later a c
@@ -421,7 +421,8 @@ pub if_err-map : {A E P Q : Type 0} (r : Result A E) (fault : E) → (P → Q) �
 if_err-map (Ok x) fault m p = tt
 if_err-map (Err e) fault m p = λ is. m p
 
--- a stream that is kept by what succeeds, and fails only with this fault, is kept unless the answer is this fault
+-- a stream that success leaves unchanged, and that only this fault changes, is unchanged unless the result is this
+-- fault
 pub kept-unless : {A : Type 0} (Q : Type 0) (r : Result A ScriptFault) (fault : ScriptFault) (before now : ℕ) → IfOk r (λ _. now ≡ before)
     → IfErr r (λ e. (e ≡ fault) × Q) → KeptUnless fault r before now
 kept-unless Q (Ok x) fault before now kept failed = kept

@@ -15,12 +15,12 @@ use Rattle.geos_calls.specs.Leaving.{NoneLocked}
 use Rattle.geos_calls.proofs.Counted.{commit-counts}
 use Rattle.geos_calls.proofs.LegalGiven.{locks_of-given}
 
--- no block of the file is locked behind a refused commit, where none was before it
+-- if no block of the file was locked before a refused commit, none is afterwards
 left-unlocked : (choice : Choice) (m : Memory) (pair : Pair) (why : Refusal) → NoneLocked m → NoneLocked (left_by_commit choice m pair why)
 left-unlocked choice m pair refusal.Disk none = cond_both choice.unsure (in_doubt m pair) m NoneLocked (λ late. none) (λ early. none)
 left-unlocked choice m pair why none = none
 
--- nor behind any
+-- the same for every commit
 pub commit-unlocked : (keeper : Keeper) (choice : Choice) (m after : Memory) (result : Result (Unit {0}) Refusal)
     → NoneLocked m → outcome (effect_of (commit keeper) choice m) ≡ (result, after) → NoneLocked after
 commit-unlocked keeper choice m after result none comes = subst NoneLocked (ap (λ (x : Result (Unit {0}) Refusal × Memory). x.1) comes)

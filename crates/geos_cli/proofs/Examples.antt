@@ -12,7 +12,7 @@ use Rattle.geos_calls.specs.VmCalls.{Keeper, commit, committed, left_by_commit, 
 use Rattle.geos_calls.specs.VmFile.{Pair, is_unsure, pair_length}
 use Rattle.geos_cli.specs.Session.{IsInMemory}
 
--- an image in digits, its three faults, and the script behind it
+-- an image in digits, its three faults, and the script after it
 pub record Sessions : Type 0 where
   pub good : hex_fault (lines (codes "47 5\n2\t5431\n end \ncall add\n")) ≡ None
   pub image : image_bytes (lines (codes "47 5\n2\t5431\n end \ncall add\n")) ≡ 0x47 ∷ 0x52 ∷ 0x54 ∷ 0x31 ∷ []

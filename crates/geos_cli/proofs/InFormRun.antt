@@ -78,7 +78,7 @@ pub not-begun : {D : Type 0} (medium : Medium D) (form : Form) (image : Parts) (
 not-begun medium form image command kernel a b kept = ([], inl (refl, refl), Appends-kept a a b [] (Appends-nil a) kept)
 
 module _ {D : Type 0} (medium : Medium D) (form : Form) (image : Parts) where
-  -- one more command is carried out behind the others
+  -- one more command runs after the others
   pub runs-more : (mode : Mode) (commands : List Numbered) (kernel between later : KernelOn D) (text : List ℕ)
       (last : Numbered) (result : Result (Unit {0}) Refusal) (plain : List ℕ)
       → RunsInForm medium form mode image commands kernel between text → RunsPlainly medium image last.command result between later plain
@@ -113,7 +113,7 @@ module _ {D : Type 0} (medium : Medium D) (form : Form) (image : Parts) where
   none-ran mode kernel a started = ([], (refl, refl), Appends-nil a, leads-none medium image mode kernel started)
 
   module _ (mode : Mode) (commands : List Numbered) (k : ℕ) (kernel between : KernelOn D) (a b : Option (List ℕ)) where
-    -- behind the last one
+    -- after the last command, all have run
     pub all-ran : length commands ≤ k → RanInForm medium form mode image (take k commands) None kernel between a b
         → RanInForm medium form mode image commands None kernel between a b
     all-ran past ran = subst (λ cs. RanInForm medium form mode image cs None kernel between a b) (take_all k commands past) ran
@@ -123,11 +123,11 @@ module _ {D : Type 0} (medium : Medium D) (form : Form) (image : Parts) where
       abbrev here : Numbered
       here = get_or commands k default
 
-      -- commands stand before the one at k, and behind it
+      -- the commands are those before index k, the one at k, and those after it
       split : commands ≡ take k commands ++ (here ∷ drop (suc k) commands)
       split = sym (take-append-drop k commands) ∙ ap (λ cs. take k commands ++ cs) (drop-cons commands k default in_range)
 
-      -- one more was carried out, and the script goes on
+      -- one more command ran, and the script continues
       pub more-ran : (result : Result (Unit {0}) Refusal) → GoesOn mode result
           → RanInForm medium form mode image (take k commands) None kernel between a b
           → RanShown medium form image here.command result between later b c

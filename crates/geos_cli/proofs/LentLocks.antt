@@ -1,4 +1,4 @@
--- Blocks that are locked for a routine, and unlocked behind it: how often each is locked, and that each is there.
+-- Blocks that are locked for a routine and unlocked after it: how often each is locked, and that each exists.
 use Rattle.geos_machine.proofs.LentBlocks.{block-there, there-block}
 use Rattle.block_handles.specs.Names.{slot_of}
 use Rattle.geos_calls.specs.VmFile.{VmFile}
@@ -36,7 +36,7 @@ use Rattle.geos_semantics.specs.State.{Held}
 use Rattle.geos_semantics.specs.Meets.{IsOfKind, holds, holds_once}
 use Rattle.geos_semantics.proofs.Stays.{stays-given, stays-mapped}
 
--- a block of the file that is held, in the words of the model
+-- a block of the file in a slot, in terms of the model
 abbrev held_block : ℕ → Held
 held_block h = record { kind = AVmBlock; handle = h; borrowed = false }
 
@@ -161,7 +161,7 @@ times-here handles k lt n le =
     let h = get_or handles k 0 in
     omega (arith, le, times-left h handles k lt, ap {B = ℕ} (λ b. cond b 1 0) (eq-eqb h h refl))
 
--- and behind its unlock each is locked often enough for the others
+-- after an unlock, each block is still locked often enough for the others
 pub times-fewer : (g : ℕ) (handles : List ℕ) (k : ℕ) → k < length handles → (now before : ℕ) → now + once (get_or handles k 0) g ≡ before
     → times g (drop k handles) ≤ before → times g (drop (k + 1) handles) ≤ now
 times-fewer g handles k lt now before e le = omega (arith, e, le, times-left g handles k lt)

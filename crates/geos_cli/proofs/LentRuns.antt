@@ -134,7 +134,7 @@ comes-alike other good alike within kernel later row result leads =
     leads-wider other good alike within kernel later (Comes (IsAllowed other) row result) (Comes (IsAllowed good) row result)
     (λ before after keeps w. (w.0, allowed-alike other good alike before.failed after.failed w.0 w.1, w.2, w.3)) leads
 
--- a stop between two states of a kernel leaves what the model has as kept beside the one, or beside the other
+-- a stop between two states of a kernel leaves the committed pair of one of the two models
 pub stops-between : {D : Type 0} (medium : Medium D) (k new : KernelOn D)
     → ((c : List ℕ) → medium.may_have_left k.device k.device c → medium.may_leave k.device c) → LeavesKept medium k → Stops medium k new
     → StopsBetween (medium.honest k.device) (Throughout medium k.device new.device) k.core new.core

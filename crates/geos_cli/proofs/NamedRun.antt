@@ -30,7 +30,8 @@ use Rattle.geos_cli.specs.WithNames.{ComesTo, IsBadNamed, LeadsFirst, LeadsLines
 use Rattle.geos_cli.proofs.WholeRuns.{Started, lines-more, lines-none}
 use Rattle.script_commands.proofs.Commands.{command_of-admitted}
 
--- a command ran, and printed into nothing so far; a writer got that in the form, and this is the word that it put out first
+-- a command ran, and its output buffer was empty before. A writer got the output in the form, and this is the first
+-- word that it printed
 pub noted : {D : Type 0} (medium : Medium D) (form : Form) (image : Parts) (command : Command) (result : Result (Unit {0}) Refusal)
     (kernel later : KernelOn D)
     (first plain text : List ℕ) (a b : Option (List ℕ)) (word : Option ℕ) → first ≡ [] → text ≡ shown_in form image command plain
@@ -61,7 +62,7 @@ if_kept-admitted : (image : Parts) (ws : List (List ℕ)) (o : Option Command) �
 if_kept-admitted image ws None h = tt
 if_kept-admitted image ws (Some c) h = admitted-if image c (may_keep ws c) h
 
--- the command of a line with names may be asked for
+-- the command of a line with names may run
 pub command_in-admitted : (image : Parts) (names : Names) (ws : List (List ℕ)) → IfSome (command_in image names ws) (IsAdmitted image)
 command_in-admitted image names ws = if_kept-admitted image ws _ (placed-admitted (in_place names ws))
   where
@@ -78,7 +79,7 @@ named-in image items others ws o c same e is = ap (λ ks. command_in image (name
 pub admitted-named : (image : Parts) (names : Names) (ws : List (List ℕ)) (c : Command) → command_in image names ws ≡ Some c → IsAdmitted image c
 admitted-named image names ws c e = subst (λ o. IfSome o (IsAdmitted image)) e (command_in-admitted image names ws)
 
--- stands where a list asks for one beyond its end
+-- the default for an index beyond the end of a list
 abbrev pub any_line : Line
 any_line = record { number = 0; text = record { ref_ptr = (0, 0); now = [] } }
 
@@ -88,7 +89,7 @@ module _ {D : Type 0} (medium : Medium D) (form : Form) (mode : Mode) (image : P
   RanSoFar lines names kernel later a b = (text : List ℕ) × RunsLines medium form mode image lines [] kernel names later text × Appends a b text
       × LeadsLines medium image lines names kernel later
 
-  -- one more line is carried out behind the others
+  -- one more line runs after the others
   pub runs-more : (lines : List Said) (names mid : Names) (kernel between later : KernelOn D) (text : List ℕ)
       (last : Said) (command : Command) (result : Result (Unit {0}) Refusal) (plain : List ℕ)
       → RunsLines medium form mode image lines names kernel mid between text → command_in image mid last.words ≡ Some command
@@ -129,7 +130,7 @@ module _ {D : Type 0} (medium : Medium D) (form : Form) (mode : Mode) (image : P
 
   module _ (lines : List Line) (k : ℕ) (names : Names) (kernel between : KernelOn D) (a b : Option (List ℕ))
       (so_far : RanSoFar (map said_by (take k lines)) names kernel between a b) where
-    -- behind the last one
+    -- after the last line, all have run
     pub all-ran : length lines ≤ k → RanLines medium form mode image (map said_by lines) None kernel between a b
     all-ran past =
         let whole = subst (λ ls. RanSoFar (map said_by ls) names kernel between a b) (take_all k lines past) so_far in
@@ -180,7 +181,7 @@ module _ {D : Type 0} (medium : Medium D) (form : Form) (mode : Mode) (image : P
 
       module _ (command : Command) (named : command_in image names here.words ≡ Some command) (later : KernelOn D) (c : Option (List ℕ))
           (alike : medium.honest between.device ↔ medium.honest kernel.device) where
-        -- it was carried out behind them
+        -- the line ran after the others
         with-this : (result : Result (Unit {0}) Refusal) (plain : List ℕ) → RunsPlainly medium image command result between later plain
             → LeadsLines medium image (map said_by (take k lines) ++ here ∷ []) (names_behind names here.words (first_put_out plain)) kernel later
         with-this result plain own = lines-more medium image kernel (map said_by (take k lines)) names between later alike here command result plain
@@ -202,7 +203,7 @@ module _ {D : Type 0} (medium : Medium D) (form : Form) (mode : Mode) (image : P
         as-far part (inl (same, none)) = subst (λ last. LeadsFirst medium image (map said_by lines) kernel last) (sym same) begun
         as-far part (inr (result, plain, rest, runs, shown)) = and-this result plain runs
 
-        -- it was carried out, and the script goes on
+        -- the line ran, and the script continues
         pub more-ran : (result : Result (Unit {0}) Refusal) (word : Option ℕ) → GoesOn mode result
             → RanNoting medium form image command result word between later b c
             → RanSoFar (map said_by (take (k + 1) lines)) (names_behind names here.words word) kernel later a c
@@ -268,7 +269,7 @@ module _ {D : Type 0} (medium : Medium D) (form : Form) (mode : Mode) (image : P
           as-far part ends,
         )
 
-        -- memory was refused behind it
+        -- an allocation was refused after the line
         pub stopped-behind : (result : Result (Unit {0}) Refusal) (word : Option ℕ)
             → RanNoting medium form image command result word between later b c
             → StoppedLines medium form mode image (map said_by lines) kernel later a c

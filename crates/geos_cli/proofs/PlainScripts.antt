@@ -35,7 +35,7 @@ module _ {D : Type 0} (medium : Medium D) (form : Form) (mode : Mode) (image : P
       rest : List Said
       rest = said_from (n + 1) all
 
-      -- the line is carried out, and those behind it
+      -- the line runs, then the lines after it
       step : More left later (n + 1) all
           → RunsLines medium form mode image (record { number = n; words = said line } ∷ rest) names kernel left later text
           → RunsInForm medium form mode image (commands_from image n (line ∷ all)) kernel later text

@@ -19,7 +19,7 @@ use Rattle.script_commands.specs.declared.command.Call.{Call as ScriptCall}
 use Rattle.geos_cli.specs.Script.{Allows, Does, GoesOn, Prints, PrintsPart, PrintsUpTo, Stage, Way, Comes, Then, Stays, LocksOne, NotLocked, UnlocksOne, LockedBehind, UnlockedBehind, Locks, Unlocks, RunsOn}
 use Rattle.script_commands.specs.Lent.{lent_by}
 
--- one more command prints behind the others, where they left it, and the script goes on
+-- one more command runs where the others ended, and prints after them; the script continues
 pub prints-more : (mode : Mode) (allows : Allows) (image : Parts) (commands : List Numbered) (before between after : Stage)
     (text : List ℕ) (keeps : List Kept)
     (last : Numbered) (result : Result (Unit {0}) Refusal) (shown : List ℕ) (own : List Kept)
@@ -58,7 +58,7 @@ prints-more mode allows image (first ∷ commands) before between after text kee
       ap (λ ks. ks ++ own) k ∙ append_assoc kept more_kept own,
     )
 
--- What is said under some choices holds under more of them
+-- Statements under some choices hold under more of them
 
 unfoldable pub ran-wider : (P Q : Choice → Type 0) → ((choice : Choice) → P choice → Q choice)
     → (image : Parts) (r : ℕ) (words handles : List ℕ) (before after : Memory) (outcome : Outcome)
@@ -142,17 +142,17 @@ module _ (P Q : Allows) (wider : (before now : ℕ) (choice : Choice) → P befo
   does-wider image (command.Commit how) result before after text keeps (choice, chosen, comes, e, k) =
       (choice, wider before.failed after.failed choice chosen, comes, e, k)
 
--- Where what is allowed says that a count which is 0 behind a command was 0 before it, commands behind which it is 0 are carried out under
--- what is allowed while it stays 0
+-- Suppose that the allowed choices never let the count of failures fall to 0. Then commands after which the count is
+-- 0 also run under the choices that are allowed while it stays 0
 
 module _ (P Q : Allows) (back : (before now : ℕ) (choice : Choice) → P before now choice → now ≡ 0 → before ≡ 0)
     (wider : (before now : ℕ) → before ≡ 0 → now ≡ 0 → (choice : Choice) → P before now choice → Q before now choice)
     (mode : Mode) (image : Parts) where
-  -- a count that is 0 behind a way was 0 before it
+  -- if the count is 0 after the transition, it was 0 before it
   abbrev Backs : Way → Type 0
   Backs W = (before after : Stage) (keeps : List Kept) → W before after keeps → after.failed ≡ 0 → before.failed ≡ 0
 
-  -- a way behind which the count is 0 holds under the others
+  -- a transition after which the count is 0 is also one under the other choices
   abbrev Stills : Way → Way → Type 0
   Stills V W = (before after : Stage) (keeps : List Kept) → after.failed ≡ 0 → V before after keeps → W before after keeps
 

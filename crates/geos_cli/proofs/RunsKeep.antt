@@ -80,7 +80,7 @@ module _ (image : Parts) (legal : is_image image ≡ true) (accepted : Accepted 
       at None there = tt
       at (Some point) there = within-keeps point there (in_routine image s.routine s.pc) refl
 
-  -- what is kept in each state of a run
+  -- each state of a run has the same committed pair
   along-keeps : (choices : List Choice) (s : State) → s.memory.file.kept ≡ kept → IsUpTo r s
       → AllByRecursion (λ k. k ≡ kept) (kept_along image choices s)
   along-keeps [] s same below = (same, tt)
@@ -93,7 +93,7 @@ module _ (image : Parts) (legal : is_image image ≡ true) (accepted : Accepted 
       next later (Next t) keeps = later t keeps.0 keeps.1
       next later (Done t) keeps = (keeps, tt)
 
-  -- and behind it
+  -- and so has the last state
   run-keeps : (choices : List Choice) (n : ℕ) (s : State) → s.memory.file.kept ≡ kept → IsUpTo r s → (steps : ℕ) (last : State)
       → run image 0 choices n s ≡ Returned steps last → last.memory.file.kept ≡ kept
   run-keeps [] n s same below steps last ran = absurd cc
@@ -120,7 +120,7 @@ module _ (image : Parts) (legal : is_image image ≡ true) (accepted : Accepted 
           (later t keeps.0 keeps.1 steps last) is
       next later (Done t) keeps is = let at : t ≡ last = cc in subst (λ (u : State). u.memory.file.kept ≡ kept) at keeps
 
--- a call that may not commit keeps what is kept
+-- a call that may not commit leaves the committed pair unchanged
 pub other_calls_keep : OtherCallsKeep
 other_calls_keep image checked call never memory choices =
     let start = begin image call.routine call.words call.handles memory in

@@ -83,7 +83,7 @@ module _ (honest : Type 0) (good : honest) where
         before after text keeps zero part,
   )
 
--- a device that fails at no call within its length, and has room for the file, has not failed behind a script
+-- a device that never fails within its length, and has room for the file, has not failed after a script
 pub never-fails : {D : Type 0} (medium : Medium D) (old new : KernelOn D) → IsSteady medium → HasRoom medium.image (vm_file_of old)
     → Steadily medium (vm_file_of old) (vm_file_of new)
     → SeesDevice medium old × SeesDevice medium new → failed_in old.core ≡ 0 → failed_in new.core ≡ 0
@@ -105,7 +105,7 @@ module _ (honest : Type 0) (bytes items image script : List ℕ) (kernel later :
       ap (λ (m : model.Memory). let s : Stage = record { memory = m; failed = failed_in kernel } in s) (empty (empty_file 65536))
       ∙ ap (λ n. let s : Stage = record { memory = no_blocks; failed = n } in s) none
 
-  -- what holds of the script holds of the lines behind `end`
+  -- a property of the script holds of the lines after `end`
   in-session : (P : List ℕ → List (List ℕ) → Stage → Type 0) → P image (lines script) first
       → P (image_bytes (lines bytes)) (script_lines (lines bytes)) begun
   in-session P h =
@@ -125,7 +125,7 @@ module _ (honest : Type 0) (bytes items image script : List ℕ) (kernel later :
         (runs-honest honest good image (lines script) first after text keeps zero h.1),
   )
 
-  -- and the flush kept what the writer got
+  -- and the flush did not change the writer's text
   pub session-ran : {within : Within} (a b c : Option (List ℕ)) → RanScript Lenient honest within image script None kernel later a b
       → Keeps b c → RanBytes bytes a c
   session-ran {within} a b c (text, leads, appends) kept =

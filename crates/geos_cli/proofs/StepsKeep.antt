@@ -36,17 +36,17 @@ use Rattle.geos_semantics.specs.State.{Frame, SlotReference, State, word, with_w
 use Rattle.geos_semantics.specs.Model.{Outcome, Fault, Next, Done, branch, answer, answered, calls, nowhere, holding, leading, return_to, most_returns, most_output, changing, making, asking, referring, unlocking, marking, changing_items, making_item, load, low_bytes, within, reads, writes, reads_within, writes_within, exec}
 use Rattle.script_commands.specs.MayCommit.{commits}
 
--- control is in a routine up to r, and returns to such
+-- control is in a routine up to r, and so are all returns on the stack
 abbrev pub IsUpTo : ℕ → State → Type 0
 IsUpTo r s = (s.routine ≤ r) × Each (λ (frame : Frame). frame.routine ≤ r) s.stack
 
--- what a step comes to that leaves what the device holds as it was
+-- a step leaves the device's contents unchanged
 abbrev pub Keeps : Kept → ℕ → Outcome → Type 0
 Keeps kept r Fault = Unit {0}
 Keeps kept r (Next t) = (t.memory.file.kept ≡ kept) × IsUpTo r t
 Keeps kept r (Done t) = t.memory.file.kept ≡ kept
 
--- what an instruction makes of an answer changes registers alone
+-- the result of a call changes only registers
 abbrev Puts : {A : Type 0} → (A → State → State) → Type 0
 Puts {A} put = (x : A) (t : State) → ((put x t).memory ≡ t.memory) × ((put x t).routine ≡ t.routine) × ((put x t).stack ≡ t.stack)
 

@@ -27,7 +27,7 @@ Started medium kernel = (f : VmFile) → IsFileOf (medium.honest kernel.device) 
 
 -- Commands
 
--- behind each the script may go on, if nothing ends it
+-- in lenient mode the script continues after each command
 prints-lenient : (mode : Mode) (allows : Allows) (image : Parts) (commands : List Numbered) (before after : Stage) (text : List ℕ) (keeps : List Kept)
     → Prints mode allows image commands before after text keeps → Prints Lenient allows image commands before after text keeps
 prints-lenient mode allows image [] before after text keeps none = none
@@ -110,7 +110,7 @@ module _ {D : Type 0} (medium : Medium D) (image : Parts) where
 
 -- Lines
 
--- one more line does its command behind the others, where they left it
+-- one more line runs its command where the others ended
 does-more : (allows : Allows) (image : Parts) (lines : List Said) (names mid : Names) (before between after : Stage) (keeps own : List Kept)
     (last : Said) (command : Command) (result : Result (Unit {0}) Refusal) (plain : List ℕ)
     → DoesLines allows image lines names mid before between keeps → command_in image mid last.words ≡ Some command

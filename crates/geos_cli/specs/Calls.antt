@@ -18,7 +18,8 @@ use Rattle.script_commands.specs.CallWords.{IsWhyNoCall}
 use Rattle.script_commands.specs.Lines.{call_named, on_line}
 use Rattle.geos_cli.specs.Script.{Allows, From, IsAllowed, IsBadImage, Leads, PrintsTo, PrintsUpTo, Stage}
 
--- bytes spell an image that the verifier accepts, and the call is that of its routine with the name, on the numbers and the blocks behind them
+-- the bytes encode an image that the verifier accepts, and the call is of its routine with this name, with the
+-- numbers and blocks that the words name
 pub record Asks (bytes name : List ℕ) (words : List (List ℕ)) (image : Parts) (call : Call) : Type 0 where
   pub read : image_at bytes ≡ Ok image
   pub accepted : Accepted image

@@ -43,8 +43,8 @@ StoppedShown medium form image command kernel later old new =
     (result : Result (Unit {0}) Refusal) × (plain : List ℕ) × (part : List ℕ) × (rest : List ℕ)
     × RunsPlainly medium image command result kernel later plain × (shown_in form image command plain ≡ part ++ rest) × Appends old new part
 
--- commands are carried out one after another, each where the one before left the kernel, and behind each the script goes on; the text is
--- what each prints, in the form
+-- the commands run one after another, each from the kernel that the one before left, and the script continues after
+-- each. The text is what they print, in the form
 abbrev pub RunsInForm : {D : Type 0} → Medium D → Form → Mode → Parts → List Numbered → KernelOn D → KernelOn D → List ℕ → Type 0
 RunsInForm medium form mode image [] kernel later text = (later ≡ kernel) × (text ≡ [])
 RunsInForm {D} medium form mode image (here ∷ commands) kernel later text =
@@ -72,7 +72,7 @@ pub record RefusesInForm {D : Type 0} (medium : Medium D) (form : Form) (mode : 
   pub refuses : RunsPlainly medium image last.command (Err refused.refusal) between later plain
   pub written : text ≡ earlier ++ shown_in form image last.command plain
 
--- commands are carried out, all or up to this refused command, as far as the mode goes on
+-- the commands run, all or up to this refused command, as the mode allows
 abbrev pub RunsTo : {D : Type 0} → Medium D → Form → Mode → Parts → List Numbered → Option RefusedCommand → KernelOn D → KernelOn D → List ℕ → Type 0
 RunsTo medium form mode image commands None kernel later text = RunsInForm medium form mode image commands kernel later text
 RunsTo medium form mode image commands (Some refused) kernel later text = (mode ≡ Strict)
@@ -105,8 +105,9 @@ pub record StopsInForm {D : Type 0} (medium : Medium D) (form : Form) (mode : Mo
   pub ends : EndsAt medium form image next.command between later part
   pub written : text ≡ earlier ++ part
 
--- commands lead from the one kernel to the other, all or up to this refused one, and print this plainly; stopped at any moment from the one
--- to the other, `open` finds what the model's run of them has as kept in one of its states
+-- the commands lead from the one kernel to the other, all or up to this refused one, and print this text in the plain
+-- form. If the program stops at any moment in between, `open` finds the committed pair of some state of the model's
+-- run
 abbrev pub LeadsTo : {D : Type 0} → Medium D → Mode → Parts → List Numbered → Option RefusedCommand → KernelOn D → KernelOn D → Type 0
 LeadsTo medium mode image commands refused kernel later =
     (plain : List ℕ)
@@ -131,7 +132,7 @@ StoppedInForm medium form mode image commands kernel later old new =
     (text : List ℕ) × StopsInForm medium form mode image commands kernel later text × Appends old new text
     × LeadsPart medium image commands kernel later
 
--- a script ran on the image that the bytes spell, to its end or to this refused command, and a writer got its text
+-- a script ran on the image that the bytes encode, to its end or to this refused command, and a writer got its text
 abbrev pub RanScriptInForm : {D : Type 0} → Medium D → Form → Mode → List ℕ → List ℕ → Option RefusedCommand → KernelOn D
     → KernelOn D → Option (List ℕ) → Option (List ℕ) → Type 0
 RanScriptInForm medium form mode bytes script refused kernel later old new =
@@ -145,7 +146,7 @@ StoppedScriptInForm medium form mode bytes script kernel later old new =
     (image : Parts) × (length script ≤ most_bytes) × Loads bytes (lines script) image
     × StoppedInForm medium form mode image (commands_of image (lines script)) kernel later old new
 
--- the call that words name ran on the image that the bytes spell, or was refused, and a writer got its text
+-- the call that the words name ran, or was refused, on the image that the bytes encode, and a writer got its text
 abbrev pub RanCallInForm : {D : Type 0} → Medium D → Form → List ℕ → List ℕ → List (List ℕ) → Option RefusedCommand → KernelOn D → KernelOn D
     → Option (List ℕ) → Option (List ℕ) → Type 0
 RanCallInForm medium form bytes name words refused kernel later old new =
@@ -159,7 +160,8 @@ StoppedCallInForm medium form bytes name words kernel later old new =
     (image : Parts) × (call : Call) × Asks bytes name words image call
     × StoppedInForm medium form Strict image (on_line 1 (command.Call call) ∷ []) kernel later old new
 
--- what is left at a fault: all as it was, or behind some commands where the writer failed, or where memory was refused for what one prints
+-- what a fault leaves: everything as it was (`kept`); or, after a failed write or a refused allocation, the effects
+-- of some commands (`stopped`)
 abbrev pub Leaves : ScriptFault → Type 0 → Type 0 → Type 0
 Leaves Write kept stopped = stopped
 Leaves Memory kept stopped = kept ⊎ stopped

@@ -56,10 +56,10 @@ pub record NotLent (allows : Allows) (handles : List ℕ) (why : Refusal) (befor
   pub in_order : handles ≡ locked ++ refused ∷ others
   pub does : Then (Then (Locks allows locked) (NotLocked allows refused why)) (Unlocks allows locked) before after keeps
 
--- a command takes one memory to another under allowed choices, comes to this result, and prints this: a
--- call, by the locks of the blocks that it lends, a model's run, what that puts out, and the unlocks, or by the refusal of
--- a lock, which is its result then; a commit, by its row in the table of calls, its refusal, which alone is a result. And
--- that is what the file keeps meanwhile, one state after another
+-- a command takes one memory to another under allowed choices, returns this result, and prints this text.
+-- A call locks the blocks that it lends, runs the model, prints its output, and unlocks the blocks; or a lock is
+-- refused, which is its result. A commit is a step of its row in the table of calls; it prints nothing but its
+-- refusal. `keeps` lists the committed pair of each state in between
 abbrev pub Does : Allows → Parts → Command → Result (Unit {0}) Refusal → Stage → Stage → List ℕ → List Kept → Type 0
 Does allows image (command.Call call) result before after text keeps =
     ((result ≡ Ok tt) × RunsLent allows image call text before after keeps)
@@ -71,13 +71,13 @@ Does allows image (command.Commit how) result before after text keeps =
     × (text ≡ committed result)
     × (keeps ≡ before.memory.file.kept ∷ after.memory.file.kept ∷ [])
 
--- a script goes on behind a command that came to this result: a strict one only where it was not refused
+-- a script continues after a command with this result: a strict one only if it was not refused
 abbrev pub GoesOn : Mode → Result (Unit {0}) Refusal → Type 0
 GoesOn Lenient result = Unit {0}
 GoesOn Strict result = result ≡ Ok tt
 
--- what the commands print and what the file keeps meanwhile, from the one stage to the other: what each
--- does, one after another, each where the one before left it, and behind each the script goes on
+-- what the commands print, and the committed pair of each state from the one stage to the other: each command starts
+-- where the one before ended, and the script continues after each
 abbrev pub Prints : Mode → Allows → Parts → List Numbered → Stage → Stage → List ℕ → List Kept → Type 0
 Prints mode allows image [] before after text keeps = (text ≡ []) × (after ≡ before) × (keeps ≡ [])
 Prints mode allows image (here ∷ commands) before after text keeps =
@@ -93,9 +93,9 @@ Prints mode allows image (here ∷ commands) before after text keeps =
     × (text ≡ shown ++ others)
     × (keeps ≡ own ++ rest)
 
--- what the commands have printed where one was refused, at this line and with this
--- refusal, and is the last: those before it are done, and behind each the script went on; it prints its
--- refusal; the others were not begun
+-- what the commands have printed if one was refused, at this line and with this refusal, and ends the script. The
+-- commands before it are done, and the script continued after each; the refused one prints its refusal; the others
+-- have not begun
 pub record PrintsRefused (mode : Mode) (allows : Allows) (image : Parts) (commands : List Numbered) (refused : RefusedCommand)
     (before after : Stage) (text : List ℕ) (keeps : List Kept) : Type 0 where
   pub done : List Numbered
@@ -113,14 +113,13 @@ pub record PrintsRefused (mode : Mode) (allows : Allows) (image : Parts) (comman
   pub written : text ≡ earlier ++ own
   pub kept : keeps ≡ kept_earlier ++ kept_last
 
--- what the commands of a script have printed when it ends: behind all of them, or behind a refused one
+-- what the commands of a script have printed when it ends: after the last one, or after a refused one
 abbrev pub PrintsTo : Mode → Allows → Parts → List Numbered → Option RefusedCommand → Stage → Stage → List ℕ → List Kept → Type 0
 PrintsTo mode allows image commands None before after text keeps = Prints mode allows image commands before after text keeps
 PrintsTo mode allows image commands (Some refused) before after text keeps = PrintsRefused mode allows image commands refused before after text keeps
 
--- what the commands have printed when a write fails: some are done, with all that they print; the
--- next one was carried out, where they left it, and to the stage after; a beginning of what it prints
--- is written, not all; the others were not begun
+-- what the commands have printed when a write fails: some are done, with all that they print; the next one ran from
+-- there, and only a part of its output is written; the others have not begun
 pub record PrintsPart (mode : Mode) (allows : Allows) (image : Parts) (commands : List Numbered) (before after : Stage)
     (text : List ℕ) (keeps : List Kept) : Type 0 where
   pub done : List Numbered
@@ -140,8 +139,8 @@ pub record PrintsPart (mode : Mode) (allows : Allows) (image : Parts) (commands 
   pub written : text ≡ earlier ++ part
   pub kept : keeps ≡ kept_earlier ++ kept_last
 
--- what the commands have printed when a flush fails: some are done, with all that they print; the next
--- one, before which a flush is due, was not begun, nor the others
+-- what the commands have printed when a flush fails: some are done, with all that they print; the next one, which
+-- requires a flush first, has not begun, nor have the others
 pub record PrintsAhead (mode : Mode) (allows : Allows) (image : Parts) (commands : List Numbered) (before after : Stage)
     (text : List ℕ) (keeps : List Kept) : Type 0 where
   pub done : List Numbered
@@ -156,8 +155,8 @@ abbrev pub PrintsUpTo : Mode → Allows → Parts → List Numbered → Stage �
 PrintsUpTo mode allows image commands before after text keeps =
     PrintsPart mode allows image commands before after text keeps ⊎ PrintsAhead mode allows image commands before after text keeps
 
--- from a kernel with this VM file this leads to another kernel, with a VM file that the model may know
--- then; and a stop meanwhile leaves a file in which `open` finds what is kept in one of the states
+-- from a kernel with this VM file, `this` leads to another kernel, with a VM file that the model may know then; and
+-- if the program stops in between, `open` finds the committed pair of one of the states
 pub record LeadsFrom (honest : Type 0) (within : Within) (kernel later : KernelState) (this : Stage → Stage → List Kept → Type 0)
     (f : VmFile) : Type 0 where
   pub file : VmFile
@@ -167,7 +166,7 @@ pub record LeadsFrom (honest : Type 0) (within : Within) (kernel later : KernelS
   pub does : this (stage_of kernel f) (stage_of later file) keeps
   pub stops : honest → within (OpensAsOneOf keeps)
 
--- whatever VM file the model knows beside a kernel, where `honest` says that the kernel's device is
+-- the same for every VM file that the model may know with the kernel; `honest` says that the kernel's device is
 abbrev pub Leads : Type 0 → Within → KernelState → KernelState → (Stage → Stage → List Kept → Type 0) → Type 0
 Leads honest within kernel later this = (f : VmFile) → IsFileOf honest kernel f → LeadsFrom honest within kernel later this f
 
@@ -176,7 +175,7 @@ abbrev pub LeadsOn : {D : Type 0} → Medium D → KernelOn D → KernelOn D →
 LeadsOn medium old new way = Leads (medium.honest old.device) (Throughout medium old.device new.device) old.core new.core
     (way (IsAllowed (medium.honest old.device)))
 
--- what is kept before, and then these
+-- the committed pair at the start, then these
 abbrev pub From : (List Kept → Type 0) → Stage → List Kept → Type 0
 From this before keeps = (rest : List Kept) × this rest × (keeps ≡ before.memory.file.kept ∷ rest)
 
@@ -212,7 +211,7 @@ StoppedCommands mode honest within image commands kernel later old new =
     × Leads honest within kernel later (λ before after keeps. From (PrintsUpTo mode (IsAllowed honest) image commands before after text) before keeps)
     × Appends old new text
 
--- bytes spell an image that the verifier accepts, and no line of the script is bad
+-- the bytes encode an image that the verifier accepts, and no line of the script is bad
 pub record Loads (bytes : List ℕ) (lines : List (List ℕ)) (image : Parts) : Type 0 where
   pub read : image_at bytes ≡ Ok image
   pub accepted : Accepted image
@@ -225,19 +224,19 @@ IsBadImage bytes (Rejected pc rule) = (image : Parts) × (image_at bytes ≡ Ok 
 IsBadImage bytes Memory = Unit {0}
 IsBadImage bytes _ = ⊥
 
--- a script of these lines runs on the image that the bytes spell, from stage to stage, to its end or
--- to this refused command, and prints the text
+-- a script of these lines runs on the image that the bytes encode, from stage to stage, to its end or to this refused
+-- command, and prints the text
 abbrev pub Runs : Mode → Allows → List ℕ → List (List ℕ) → Option RefusedCommand → Stage → Stage → List ℕ → List Kept → Type 0
 Runs mode allows bytes lines refused before after text keeps =
     (image : Parts) × Loads bytes lines image × PrintsTo mode allows image (commands_of image lines) refused before after text keeps
 
--- a script of these lines runs on the image that the bytes spell, and has come to the stage after
--- and printed the text when the writer fails
+-- a script of these lines runs on the image that the bytes encode; when the writer fails, it is at stage `after` and
+-- has printed the text
 abbrev pub Stops : Mode → Allows → List ℕ → List (List ℕ) → Stage → Stage → List ℕ → List Kept → Type 0
 Stops mode allows bytes lines before after text keeps =
     (image : Parts) × Loads bytes lines image × PrintsUpTo mode allows image (commands_of image lines) before after text keeps
 
--- when such a script ends with a fault: each of them in the order in which they are looked for
+-- when such a script ends with each fault; the program checks for them in this order
 abbrev pub EndsBy : List ℕ → List (List ℕ) → ScriptFault → Type 0
 EndsBy bytes lines (BadImage at) = image_at bytes ≡ Err at
 EndsBy bytes lines (Rejected pc rule) = (image : Parts) × (image_at bytes ≡ Ok image) × FirstRefusal image (record { pc = pc; rule = rule })
@@ -248,14 +247,14 @@ EndsBy bytes lines TooLong = ⊥
 EndsBy bytes lines (BadHex line) = ⊥
 EndsBy bytes lines Read = ⊥
 
--- the script runs on the image that the bytes spell, from stage to stage, to its end or to this refused
--- commit, and prints the text
+-- the script runs on the image that the bytes encode, from stage to stage, to its end or to this refused commit, and
+-- prints the text
 abbrev pub RunsScript : Mode → Allows → List ℕ → List ℕ → Option RefusedCommand → Stage → Stage → List ℕ → List Kept → Type 0
 RunsScript mode allows bytes script refused before after text keeps =
     (length script ≤ most_bytes) × Runs mode allows bytes (lines script) refused before after text keeps
 
--- the script runs on the image that the bytes spell, and has come to the stage after and printed the
--- text when the writer fails
+-- the script runs on the image that the bytes encode; when the writer fails, it is at stage `after` and has printed
+-- the text
 abbrev pub StopsScript : Mode → Allows → List ℕ → List ℕ → Stage → Stage → List ℕ → List Kept → Type 0
 StopsScript mode allows bytes script before after text keeps = (length script ≤ most_bytes)
     × Stops mode allows bytes (lines script) before after text keeps
@@ -276,7 +275,7 @@ StoppedScript mode honest within bytes script kernel later old new =
     × Leads honest within kernel later (λ before after keeps. From (StopsScript mode (IsAllowed honest) bytes script before after text) before keeps)
     × Appends old new text
 
--- when a script ends with a fault: first of all, where it is too long
+-- when a script ends with a fault; the program first checks whether it is too long
 abbrev pub ScriptEndsBy : List ℕ → List ℕ → ScriptFault → Type 0
 ScriptEndsBy bytes script TooLong = most_bytes < length script
 ScriptEndsBy bytes script fault = (length script ≤ most_bytes) × EndsBy bytes (lines script) fault

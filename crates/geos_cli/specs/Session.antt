@@ -13,8 +13,8 @@ use Rattle.geos_input.specs.Reading.{Reads}
 use Rattle.geos_cli.specs.declared.script.Mode.TheVariants.{Lenient}
 use Rattle.geos_cli.specs.Script.{Runs, Stage, Stops, EndsBy}
 
--- what may come from outside in a session: room and memory may be refused; the device, which is in
--- memory, refuses nothing and gives nothing
+-- the choices in a session: room and memory may be refused; the device is in memory, so it refuses nothing and
+-- returns no wrong bytes
 pub record IsInMemory (before now : ℕ) (choice : Choice) : Type 0 where
   pub device : choice.device ≡ false
   pub given : choice.given ≡ []
@@ -22,13 +22,13 @@ pub record IsInMemory (before now : ℕ) (choice : Choice) : Type 0 where
 -- the memory in which a session begins: no block, in a region of 65,536 bytes, and an empty VM
 -- file with an area of as many
 abbrev pub no_blocks : model.Memory
-no_blocks = record { blocks = replicate 1024 None; file = empty_file 65536; region = 65536 }
+no_blocks = record { blocks = replicate 1024 None; file = empty_file 65536; region = 65536; handles = 1024 }
 
--- where its first command begins: the device has not failed
+-- the stage of its first command: the device has not failed
 abbrev pub begun : Stage
 begun = record { memory = no_blocks; failed = 0 }
 
--- the script in the lines behind `end` runs on the image in front of it, and prints the text
+-- the script in the lines after `end` runs on the image in the lines before it, and prints the text
 abbrev pub RunsLines : List (List ℕ) → List ℕ → Type 0
 RunsLines lines text = (after : Stage) × (keeps : List Kept) × Runs Lenient IsInMemory (image_bytes lines)
     (script_lines lines) None begun after text keeps
@@ -43,8 +43,8 @@ StopsLines lines text = (after : Stage) × (keeps : List Kept) × Stops Lenient 
 abbrev pub RunsSession : List ℕ → List ℕ → Type 0
 RunsSession bytes text = (length bytes ≤ most_bytes) × (hex_fault (lines bytes) ≡ None) × RunsLines (lines bytes) text
 
--- such bytes, whose script has printed the text when the writer fails: a part of it, or all
--- where the last flush failed
+-- the text that the script of these bytes has printed when the writer fails: a part of the output, or all of it if
+-- the last flush failed
 abbrev pub StopsSession : List ℕ → List ℕ → Type 0
 StopsSession bytes text =
     (length bytes ≤ most_bytes) × (hex_fault (lines bytes) ≡ None) × (StopsLines (lines bytes) text ⊎ RunsLines (lines bytes) text)
@@ -66,22 +66,20 @@ RanSession given left old new = (bytes text : List ℕ) × Reads given left byte
 abbrev pub StoppedSession : Option (List ℕ) → Option (List ℕ) → Option (List ℕ) → Option (List ℕ) → Type 0
 StoppedSession given left old new = (bytes text : List ℕ) × Reads given left bytes × StopsSession bytes text × Appends old new text
 
--- when a session of these bytes ends with a fault: each of them in the order in which they are
--- looked for
+-- when a session of these bytes ends with each fault; the program checks for them in this order
 abbrev pub SessionEndsBy : List ℕ → ScriptFault → Type 0
 SessionEndsBy bytes TooLong = most_bytes < length bytes
 SessionEndsBy bytes (BadHex line) = (length bytes ≤ most_bytes) × (hex_fault (lines bytes) ≡ Some line)
 SessionEndsBy bytes fault =
     (length bytes ≤ most_bytes) × (hex_fault (lines bytes) ≡ None) × EndsBy (image_bytes (lines bytes)) (script_lines (lines bytes)) fault
 
--- why such a session ends with a fault; nothing is said of it where an allocation was refused
+-- why such a session ends with a fault; after a refused allocation it may be at any point
 abbrev pub EndsBytes : List ℕ → ScriptFault → Type 0
 EndsBytes bytes Memory = Unit {0}
 EndsBytes bytes fault = SessionEndsBy bytes fault
 
--- why a session ends with a fault, by what its reader gave: it was not read to its end where
--- it is too long, and nothing is said of it where the reader failed or an allocation was
--- refused
+-- why a session ends with a fault, by what its reader gave. If the session is too long, it was not read to its end.
+-- After a failed read or a refused allocation, nothing is claimed
 abbrev pub EndsSession : Option (List ℕ) → Option (List ℕ) → ScriptFault → Type 0
 EndsSession before now Read = Unit {0}
 EndsSession before now Memory = Unit {0}

@@ -10,31 +10,31 @@ use Rattle.geos_kernel.specs.Kernel.{HasRisen}
 use Rattle.block_handles.specs.Store.{Store, locks_of}
 use Rattle.vm_blocks.specs.View.{vm_slot}
 
--- where a script stands: the memory, and how often the device has failed
+-- the state of a script: the memory, and how often the device has failed
 pub record Stage : Type 0 where
   pub memory : model.Memory
   pub failed : ℕ
 
--- where it stands at a kernel, beside a VM file that the model may know
+-- the stage of a kernel, with a VM file that the model may know
 abbrev pub stage_of : KernelState → VmFile → Stage
 stage_of kernel f = record { memory = memory_of kernel f; failed = failed_in kernel }
 
--- which choices are allowed at a command, by how often the device has failed before it and behind it
+-- which choices are allowed at a command, given how often the device had failed before it and after it
 abbrev pub Allows : Type 1
 Allows = ℕ → ℕ → Choice → Type 0
 
--- those of an honest device: it gives nothing, refuses only where it failed at this command, and has not failed
--- less often behind it
+-- the choices of an honest device: it returns no wrong bytes; it refuses only if a failure was counted during this
+-- command; and the count of failures never falls
 pub record IsAllowed (honest : Type 0) (before now : ℕ) (choice : Choice) : Type 0 where
   pub given : honest → choice.given ≡ []
   pub device : honest → choice.device ≡ true → HasRisen before now
   pub lasts : honest → (now ≡ before) ⊎ HasRisen before now
 
--- what leads from one stage to another, and what the file keeps meanwhile, one state after another
+-- a transition from one stage to another, with the committed pair of each state in between
 abbrev pub Way : Type 1
 Way = Stage → Stage → List Kept → Type 0
 
--- a call of the kernel comes to this result under an allowed choice
+-- a call of the kernel returns this result under an allowed choice
 abbrev pub Comes : {A : Type 0} → Allows → Call A → Result A Refusal → Stage → Stage → List Kept → Type 0
 Comes allows row result before after keeps =
     (choice : Choice)
@@ -42,7 +42,7 @@ Comes allows row result before after keeps =
     × (outcome (effect_of row choice before.memory) ≡ (result, after.memory))
     × (keeps ≡ before.memory.file.kept ∷ after.memory.file.kept ∷ [])
 
--- one way, and then another
+-- one transition, then another
 abbrev pub Then : Way → Way → Stage → Stage → List Kept → Type 0
 Then first second before after keeps =
     (between : Stage) × (own : List Kept) × (rest : List Kept) × first before between own × second between after rest × (keeps ≡ own ++ rest)
@@ -67,12 +67,12 @@ MarksOne allows h = Comes allows (vdirty h) (Ok tt)
 abbrev pub UnlocksOne : Allows → ℕ → Way
 UnlocksOne allows h = Comes allows (vunlock h) (Ok tt)
 
--- a way, and then blocks are locked, one after another
+-- a transition, then locks of blocks, one after another
 abbrev pub LockedBehind : Allows → Way → List ℕ → Way
 LockedBehind allows way [] = way
 LockedBehind allows way (h ∷ handles) = LockedBehind allows (Then way (LocksOne allows h)) handles
 
--- a way, and then blocks are unlocked, one after another
+-- a transition, then unlocks of blocks, one after another
 abbrev pub UnlockedBehind : Allows → Way → List ℕ → Way
 UnlockedBehind allows way [] = way
 UnlockedBehind allows way (h ∷ handles) = UnlockedBehind allows (Then way (UnlocksOne allows h)) handles
@@ -89,7 +89,7 @@ Unlocks allows handles = UnlockedBehind allows Stays handles
 abbrev pub once : ℕ → ℕ → ℕ
 once h g = if h == g then 1 else 0
 
--- how often a block's handle is among some
+-- how often the block's handle is in a list
 abbrev pub times : ℕ → List ℕ → ℕ
 times g [] = 0
 times g (h ∷ handles) = once h g + times g handles

@@ -21,14 +21,14 @@ use Rattle.script_commands.specs.Lent.{lent_by}
 use Rattle.script_commands.specs.Lines.{routine_named}
 use Rattle.geos_cli.specs.Script.{Allows, LeadsOn, Locks, NotLent, Stage, Then, Unlocks}
 
--- the first pc of the routine of a name, and the end behind its last one; or those of all routines
+-- the first pc of the named routine, and the pc after its last one; without a name, the same for all routines
 abbrev pub stretch_of : Parts → Option (List ℕ) → Option (ℕ × ℕ)
 stretch_of image None = Some (0, length image.points)
 stretch_of image (Some name) =
     option_and_then (λ r. option_map (λ routine. (start_of image.routines r, start_of image.routines r + routine.count)) (slice_get image.routines r))
     (routine_named image name)
 
--- the routine of a call runs on the blocks that it is lent, and notes tell its steps
+-- the routine of a call runs on the blocks that the call lends, and the trace is true of its steps
 abbrev pub TracesOn : Allows → Parts → Call → Outcome → Notes → Stage → Stage → List Kept → Type 0
 TracesOn allows image call outcome notes before after keeps =
     (ran : Ran (allows before.failed after.failed) image call.routine call.words call.handles before.memory after.memory outcome)
@@ -46,8 +46,8 @@ pub record IsMadeAs (blank notes : Notes) : Type 0 where
   pub end : notes.end ≡ blank.end
   pub most : notes.most ≡ blank.most
 
--- the call that words name ran on the image that the bytes spell, and notes were taken of it, of so many steps at most, of the routine of the
--- name or of all
+-- the call that the words name ran on the image that the bytes encode, and its trace has at most so many steps, of
+-- the named routine or of all
 pub record IsTracedCall {D : Type 0} (medium : Medium D) (old new : KernelOn D) (bytes name : List ℕ) (words : List (List ℕ))
     (only : Option (List ℕ)) (most : ℕ) (traced : TracedCall) : Type 0 where
   pub call : Call
@@ -65,7 +65,7 @@ pub record IsNotLent {D : Type 0} (medium : Medium D) (old new : KernelOn D) (by
   pub asks : Asks bytes name words image call
   pub refused : LeadsOn medium old new (λ allows. NotLent allows (lent_by image call) why)
 
--- what such a call came to
+-- the result of such a call
 abbrev pub IsTraced : {D : Type 0} → Medium D → KernelOn D → KernelOn D → List ℕ → List ℕ → List (List ℕ) → Option (List ℕ) → ℕ
     → Result TracedCall Refusal → Type 0
 IsTraced medium old new bytes name words only most (Ok traced) = IsTracedCall medium old new bytes name words only most traced
@@ -78,7 +78,7 @@ pub record HasNone (bytes : List ℕ) (only : Option (List ℕ)) : Type 0 where
   pub accepted : Accepted image
   pub none : stretch_of image only ≡ None
 
--- why such a call does not run: a fault of the call; or no routine has the name whose steps are to be noted
+-- why such a call does not run: a fault of the call; or no routine has the name whose steps are to be traced
 abbrev pub WhyNotTraced : List ℕ → List ℕ → List (List ℕ) → Option (List ℕ) → TraceFault → Type 0
 WhyNotTraced bytes name words only (fault.Call (Script Write)) = ⊥
 WhyNotTraced bytes name words only (fault.Call why) = CallEndsBy bytes name words why

@@ -1,4 +1,4 @@
--- Scripts whose lines write names for words that calls before them put out.
+-- Scripts whose lines contain names for words that earlier calls printed.
 use Rattle.std.specs.Prelude.{◌≡◌, ◌<◌, ◌≤◌, ◌⊎◌, ℕ, List, [], ◌∷◌, ◌++◌, length, Option, Some, None, Result, Ok, Err}
 use Rattle.std.specs.Io.KnownBytes.{Appends}
 use Rattle.vm_file.specs.Device.{Medium}
@@ -23,16 +23,17 @@ use Rattle.geos_cli.specs.InForm.{EndsAt, RunsPlainly}
 use Rattle.script_commands.specs.Names.{Names, Said, command_in, first_bad_in, first_put_out, lines_said, names_behind}
 use Rattle.geos_cli.specs.Script.{Allows, Does, From, GoesOn, LeadsOn, Stage}
 
--- a command was carried out, from kernel to kernel, came to this result, and put out this word first, or none; a writer got its text in
--- the form
+-- a command ran from kernel to kernel, returned this result, and printed this word first, or none; a writer got its
+-- text in the form
 abbrev pub RanNoting : {D : Type 0} → Medium D → Form → Parts → Command → Result (Unit {0}) Refusal → Option ℕ
     → KernelOn D → KernelOn D → Option (List ℕ) → Option (List ℕ) → Type 0
 RanNoting medium form image command result word kernel later old new =
     (plain : List ℕ) × RunsPlainly medium image command result kernel later plain × (word ≡ first_put_out plain)
     × Appends old new (shown_in form image command plain)
 
--- lines are carried out one after another, each where the one before left the kernel and the names, and behind each the script goes on: a
--- line is the command of the same line with numbers in the place of names; the text is what each prints, in the form
+-- the lines run one after another, each from the kernel and the names that the one before left, and the script
+-- continues after each. A line is the command of this line with its names replaced by numbers. The text is what they
+-- print, in the form
 abbrev pub RunsLines : {D : Type 0} → Medium D → Form → Mode → Parts → List Said → Names → KernelOn D → Names → KernelOn D → List ℕ → Type 0
 RunsLines medium form mode image [] names kernel left later text = (left ≡ names) × (later ≡ kernel) × (text ≡ [])
 RunsLines {D} medium form mode image (line ∷ lines) names kernel left later text =
@@ -47,7 +48,7 @@ RunsLines {D} medium form mode image (line ∷ lines) names kernel left later te
     × RunsLines medium form mode image lines (names_behind names line.words (first_put_out plain)) between left later others
     × (text ≡ shown_in form image command plain ++ others)
 
--- some of the lines are done, from no name on, and this one is next
+-- some of the lines are done, starting without names, and this one is next
 pub record ComesTo {D : Type 0} (medium : Medium D) (form : Form) (mode : Mode) (image : Parts) (lines : List Said)
     (kernel : KernelOn D) (names : Names) (later : KernelOn D) (text : List ℕ) (next : Said) : Type 0 where
   pub done : List Said
@@ -83,8 +84,8 @@ RunsLinesTo medium form mode image lines (Some (Refused refused)) kernel later t
     × RefusesLine medium form mode image lines refused kernel later text
 RunsLinesTo medium form mode image lines (Some (BadLine n)) kernel later text = EndsBadly medium form mode image lines n kernel later text
 
--- the writer failed, or memory was refused: some lines are done; the next one was not begun, or was carried out, and the text ends with a
--- beginning of what it prints; the others were not begun
+-- the writer failed, or memory was refused: some lines are done; the next one has not begun, or it ran and the text
+-- ends with a part of its output; the others have not begun
 pub record StopsLines {D : Type 0} (medium : Medium D) (form : Form) (mode : Mode) (image : Parts) (lines : List Said)
     (kernel later : KernelOn D) (text : List ℕ) : Type 0 where
   pub names : Names
@@ -97,8 +98,9 @@ pub record StopsLines {D : Type 0} (medium : Medium D) (form : Form) (mode : Mod
       × EndsAt medium form image command between later part)
   pub written : text ≡ earlier ++ part
 
--- lines lead from stage to stage, and from names to names, one after another, each where the one before left them: a line does what the
--- command of the same line with numbers in the place of names does, and that is what the file keeps meanwhile
+-- lines lead from stage to stage, and from names to names, each from where the one before ended. A line does what the
+-- command of the same line does, with numbers in the place of names; `keeps` lists the committed pair of each state
+-- in between
 abbrev pub DoesLines : Allows → Parts → List Said → Names → Names → Stage → Stage → List Kept → Type 0
 DoesLines allows image [] names left before after keeps = (left ≡ names) × (after ≡ before) × (keeps ≡ [])
 DoesLines allows image (line ∷ lines) names left before after keeps =
@@ -113,18 +115,18 @@ DoesLines allows image (line ∷ lines) names left before after keeps =
     × DoesLines allows image lines (names_behind names line.words (first_put_out plain)) left between after rest
     × (keeps ≡ own ++ rest)
 
--- lines lead from the one kernel to the other, from no name on to these; stopped at any moment from the one to the other, `open` finds what
--- the model's run of them has as kept in one of its states
+-- the lines lead from the one kernel to the other, and from no names to these. If the program stops at any moment in
+-- between, `open` finds the committed pair of some state of the model's run
 abbrev pub LeadsLines : {D : Type 0} → Medium D → Parts → List Said → Names → KernelOn D → KernelOn D → Type 0
 LeadsLines medium image lines left kernel later =
     LeadsOn medium kernel later (λ allows before after keeps. From (DoesLines allows image lines [] left before after) before keeps)
 
--- so do the first of them, those that were carried out, whatever each came to
+-- the first lines do, whatever their results
 abbrev pub LeadsFirst : {D : Type 0} → Medium D → Parts → List Said → KernelOn D → KernelOn D → Type 0
 LeadsFirst medium image lines kernel later =
     (names : Names) × (done : List Said) × (others : List Said) × (lines ≡ done ++ others) × LeadsLines medium image done names kernel later
 
--- so do all of them or, where the script ended before the last one, the first ones
+-- all of them do, or the first ones if the script ended before the last one
 abbrev pub LeadsLinesTo : {D : Type 0} → Medium D → Parts → List Said → Option EarlyEnd → KernelOn D → KernelOn D → Type 0
 LeadsLinesTo medium image lines None kernel later = (names : Names) × LeadsLines medium image lines names kernel later
 LeadsLinesTo medium image lines (Some end) kernel later = LeadsFirst medium image lines kernel later
@@ -153,14 +155,15 @@ IsBadNamed image script (BadScript line) = first_bad_in image [] (lines_said scr
 IsBadNamed image script Memory = Unit {0}
 IsBadNamed image script _ = ⊥
 
--- bytes spell an image that the verifier accepts, and no line of the script is bad, whatever numbers its names will stand for
+-- the bytes encode an image that the verifier accepts, and no line of the script is bad, whatever numbers replace its
+-- names
 pub record LoadsNamed (bytes script : List ℕ) (image : Parts) : Type 0 where
   pub short : length script ≤ most_bytes
   pub read : image_at bytes ≡ Ok image
   pub accepted : Accepted image
   pub good : first_bad_in image [] (lines_said script) ≡ None
 
--- a script ran on the image that the bytes spell, to its end or to this one, and a writer got its text
+-- a script ran on the image that the bytes encode, to its end or to this early end, and a writer got its text
 abbrev pub RanNamedScript : {D : Type 0} → Medium D → Form → Mode → List ℕ → List ℕ → Option EarlyEnd → KernelOn D
     → KernelOn D → Option (List ℕ) → Option (List ℕ) → Type 0
 RanNamedScript medium form mode bytes script end kernel later old new =
@@ -172,7 +175,7 @@ abbrev pub StoppedNamedScript : {D : Type 0} → Medium D → Form → Mode → 
 StoppedNamedScript medium form mode bytes script kernel later old new =
     (image : Parts) × LoadsNamed bytes script image × StoppedLines medium form mode image (lines_said script) kernel later old new
 
--- when such a script ends with a fault, each of them in the order in which they are looked for
+-- when such a script ends with each fault; the program checks for them in this order
 abbrev pub NamedScriptEndsBy : List ℕ → List ℕ → ScriptFault → Type 0
 NamedScriptEndsBy bytes script TooLong = most_bytes < length script
 NamedScriptEndsBy bytes script (BadImage at) = (length script ≤ most_bytes) × (image_at bytes ≡ Err at)

@@ -79,7 +79,8 @@ fn open_item<D: Device + Drop>(
     kernel.ilock(g, i, n)
 }
 
-/// Locks the block or the group, and tells where the bytes lie, which are so many at least. Where that is refused, it is not locked.
+/// Locks the block or the group, and returns a span of at least so many bytes. If it refuses, it leaves the block
+/// unlocked.
 fn open<D: Device + Drop>(kernel: &mut Kernel<D>, place: Place, n: u16) -> Result<Span, Refusal>
     ensures opened { IfOk result (Opened D.medium place n kernel.old kernel.new) }
     ensures refused { IfErr result (λ why. LeadsOn D.medium kernel.old kernel.new (λ allows. NotOpened allows place n why)) }

@@ -21,17 +21,28 @@ use crate::progress::Progress;
 use crate::script::{Mode, RefusedCommand, ended_by, load};
 use geos_input::{Counted, MOST_BYTES, ScriptFault};
 use geos_kernel::Kernel;
+use geos_machine::Follow;
 use geos_verify::Checked;
 use script_commands::{CallFault, Command, Form, Numbered, call_on, commands_of, why_no_call};
 use std::alloc::Global;
 use std::io::Write;
 use vm_file::Device;
 
+/// How a script or a call runs.
+#[derive(Drop)]
+pub struct RunOptions<F> {
+    /// How output is printed.
+    pub form: Form,
+    /// What follows a refused command.
+    pub mode: Mode,
+    /// Learns how far each run is.
+    pub follower: F,
+}
+
 /// Carries out the commands one after another, as `carry_out_all` does, and prints in a form what they print.
-fn carry_out_all_in_form<W: Write, D: Device + Drop>(
+fn carry_out_all_in_form<W: Write, D: Device + Drop, F: Follow + Drop>(
     alloc: Global,
-    form: Form,
-    mode: Mode,
+    options: RunOptions<F>,
     checked: &Checked,
     commands: &[Numbered],
     kernel: &mut Kernel<D>,
@@ -39,9 +50,9 @@ fn carry_out_all_in_form<W: Write, D: Device + Drop>(
 ) -> Result<Option<RefusedCommand>, ScriptFault>
     requires admitted { All (λ c. IsAdmitted checked.now c.command) commands.now }
     requires unlocked { NoneLocked kernel.old.core.blocks }
-    ensures ran { IfOk result (λ refused. RanInForm D.medium form mode checked.now commands.now refused kernel.old kernel.new
+    ensures ran { IfOk result (λ refused. RanInForm D.medium options.form options.mode checked.now commands.now refused kernel.old kernel.new
         (W.contents out.old.stream) (W.contents out.new.stream)) }
-    ensures stopped { IfErr result (λ _. StoppedInForm D.medium form mode checked.now commands.now kernel.old kernel.new
+    ensures stopped { IfErr result (λ _. StoppedInForm D.medium options.form options.mode checked.now commands.now kernel.old kernel.new
         (W.contents out.old.stream) (W.contents out.new.stream)) }
     ensures honest { D.medium.honest kernel.new.device ↔ D.medium.honest kernel.old.device }
     ensures unlocked { NoneLocked kernel.new.core.blocks }
@@ -51,7 +62,12 @@ fn carry_out_all_in_form<W: Write, D: Device + Drop>(
     ensures failed { IfErr result (λ fault. fault ≡ Write → Rose out.old.failures out.new.failures) }
     ensures kept { KeptUnless Write result out.old.failures out.new.failures }
 {
-    let mut progress = Progress::new(checked);
+    let RunOptions {
+        form,
+        mode,
+        follower,
+    } = options;
+    let mut progress = Progress::new(checked, follower);
     kernel.memory_is_legal();
     for numbered in commands {
         let command = &numbered.command;
@@ -67,10 +83,9 @@ fn carry_out_all_in_form<W: Write, D: Device + Drop>(
 ///
 /// The faults are those of `run_script`, and `Memory` also if there is no memory for what a command prints: that command is done, and no
 /// other begins.
-pub fn run_script_in_form<W: Write, D: Device + Drop>(
+pub fn run_script_in_form<W: Write, D: Device + Drop, F: Follow + Drop>(
     alloc: Global,
-    form: Form,
-    mode: Mode,
+    options: RunOptions<F>,
     image: &[u8],
     script: &[u8],
     kernel: &mut Kernel<D>,
@@ -79,14 +94,14 @@ pub fn run_script_in_form<W: Write, D: Device + Drop>(
     requires unlocked { NoneLocked kernel.old.core.blocks }
     // Each command did what it does in the plain form, and the writer got what they printed, in this form. After a stop at any moment,
     // opening the file finds what the model's run of the script has committed in one of its states.
-    ensures ran { IfOk result (λ refused. RanScriptInForm D.medium form mode image.now script.now refused kernel.old kernel.new
+    ensures ran { IfOk result (λ refused. RanScriptInForm D.medium options.form options.mode image.now script.now refused kernel.old kernel.new
         (W.contents out.old.stream) (W.contents out.new.stream)) }
     ensures due { IfErr result (ScriptEndsBy image.now script.now) }
     // Nothing ran and nothing was written, or some commands ran, and the writer got a prefix of their text. A stop then
     // leaves what the model's run of these has committed.
     ensures left { IfErr result (λ fault. Leaves fault
         ((kernel.new ≡ kernel.old) × Keeps (W.contents out.old.stream) (W.contents out.new.stream))
-        (StoppedScriptInForm D.medium form mode image.now script.now kernel.old kernel.new (W.contents out.old.stream) (W.contents out.new.stream))) }
+        (StoppedScriptInForm D.medium options.form options.mode image.now script.now kernel.old kernel.new (W.contents out.old.stream) (W.contents out.new.stream))) }
     ensures honest { D.medium.honest kernel.new.device ↔ D.medium.honest kernel.old.device }
     ensures unlocked { NoneLocked kernel.new.core.blocks }
     ensures sees { SeesDevice D.medium kernel.old × SeesDevice D.medium kernel.new }
@@ -100,14 +115,14 @@ pub fn run_script_in_form<W: Write, D: Device + Drop>(
     }
     let checked = load(alloc, image)?;
     let commands = commands_of(alloc, &checked, script)?;
-    carry_out_all_in_form(alloc, form, mode, &checked, &commands, kernel, out)
+    carry_out_all_in_form(alloc, options, &checked, &commands, kernel, out)
 }
 
-/// Runs one call as `run_call` does, and prints its output in a form. The faults are those of `run_call`, and `Memory` also if there is no
+/// Runs one call as `run_call` does, which is strict, and prints its output in a form. The faults are those of `run_call`, and `Memory` also if there is no
 /// memory for what the call prints: the call is done then.
-pub fn run_call_in_form<W: Write, D: Device + Drop>(
+pub fn run_call_in_form<W: Write, D: Device + Drop, F: Follow + Drop>(
     alloc: Global,
-    form: Form,
+    options: RunOptions<F>,
     image: &[u8],
     name: &str,
     words: &[&str],
@@ -117,14 +132,14 @@ pub fn run_call_in_form<W: Write, D: Device + Drop>(
     requires unlocked { NoneLocked kernel.old.core.blocks }
     // The call did what it does in the plain form, and the writer got what it printed, in this form. After a stop at any moment, opening
     // the file finds what the model's run of the call has committed in one of its states.
-    ensures ran { IfOk result (λ refused. RanCallInForm D.medium form image.now name.now (texts words.now) refused kernel.old kernel.new
+    ensures ran { IfOk result (λ refused. RanCallInForm D.medium options.form image.now name.now (texts words.now) refused kernel.old kernel.new
         (W.contents out.old.stream) (W.contents out.new.stream)) }
     ensures due { IfErr result (CallEndsBy image.now name.now (texts words.now)) }
     // Nothing ran and nothing was written, or the call ran, and the writer got a prefix of its text. A stop then leaves
     // what the model's run of it has committed.
     ensures left { IfErr result (λ fault. LeavesCall fault
         ((kernel.new ≡ kernel.old) × Keeps (W.contents out.old.stream) (W.contents out.new.stream))
-        (StoppedCallInForm D.medium form image.now name.now (texts words.now) kernel.old kernel.new (W.contents out.old.stream) (W.contents out.new.stream))) }
+        (StoppedCallInForm D.medium options.form image.now name.now (texts words.now) kernel.old kernel.new (W.contents out.old.stream) (W.contents out.new.stream))) }
     ensures honest { D.medium.honest kernel.new.device ↔ D.medium.honest kernel.old.device }
     ensures unlocked { NoneLocked kernel.new.core.blocks }
     ensures sees { SeesDevice D.medium kernel.old × SeesDevice D.medium kernel.new }
@@ -142,7 +157,11 @@ pub fn run_call_in_form<W: Write, D: Device + Drop>(
         line: 1,
         command: Command::Call(call),
     };
-    match carry_out_all_in_form(alloc, form, Mode::Strict, &checked, &[command], kernel, out) {
+    let strict = RunOptions {
+        mode: Mode::Strict,
+        ..options
+    };
+    match carry_out_all_in_form(alloc, strict, &checked, &[command], kernel, out) {
         Ok(refused) => Ok(refused),
         Err(fault) => Err(CallFault::Script(fault)),
     }

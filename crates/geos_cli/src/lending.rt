@@ -24,7 +24,7 @@ ghost use Rattle.geos_cli.specs.Script.{Comes, LeadsOn, LockedMore, Locks, NotLe
 
 use arrayvec::ArrayVec;
 use geos_kernel::Kernel;
-use geos_machine::{Machine, Outcome};
+use geos_machine::{Follow, Machine, Outcome};
 use geos_terms::{Name, Refusal};
 use geos_verify::Checked;
 use granted_runs::{RoutineCall, run_granted};
@@ -64,7 +64,7 @@ pub(crate) fn unlock<D: Device + Drop>(kernel: &mut Kernel<D>, h: u16)
     kernel.memory_is_legal();
 }
 
-/// Locks blocks one after another. Where one is refused, it answers how many are locked, and the refusal.
+/// Locks blocks one after another. If a lock is refused, it returns the refusal, and how many blocks are locked.
 fn lock_all<D: Device + Drop>(
     kernel: &mut Kernel<D>,
     handles: &[u16],
@@ -104,8 +104,8 @@ pub(crate) fn unlock_all<D: Device + Drop>(kernel: &mut Kernel<D>, handles: &[u1
     }
 }
 
-/// Locks the blocks that a call lends, in the order of slots, and gives their handles. Where a lock is refused, those before it are
-/// unlocked again.
+/// Locks the blocks that a call lends, in the order of slots, and returns their handles. If a lock is refused, it
+/// unlocks those that it has locked.
 pub(crate) fn lock_lent<D: Device + Drop>(
     checked: &Checked,
     call: &Call,
@@ -139,9 +139,26 @@ pub(crate) fn lock_lent<D: Device + Drop>(
     }
 }
 
+/// What runs the calls of a script: a machine, and a follower of its runs.
+#[derive(Drop)]
+pub(crate) struct Runner<F> {
+    machine: Machine,
+    follower: F,
+}
+
+impl<F> Runner<F> {
+    /// A machine at rest, and its follower.
+    pub(crate) fn new(follower: F) -> Runner<F> {
+        Runner {
+            machine: Machine::new(),
+            follower,
+        }
+    }
+}
+
 /// Runs the routine of a call on blocks that are locked for it.
-fn run<'m, D: Device + Drop>(
-    machine: &'m mut Machine,
+fn run<'m, D: Device + Drop, F: Follow + Drop>(
+    runner: &'m mut Runner<F>,
     checked: &Checked,
     call: &Call,
     kernel: &mut Kernel<D>,
@@ -163,13 +180,13 @@ fn run<'m, D: Device + Drop>(
         words: &call.words,
         handles: &call.handles,
     };
-    run_granted(machine, &call, kernel)
+    run_granted(&mut runner.machine, &call, kernel, &mut runner.follower)
 }
 
-/// Locks the blocks that a call lends, in the order of slots, runs its routine, and unlocks them. Where a lock is refused,
-/// those before it are unlocked again, and the routine is not run.
-pub(crate) fn run_lent<'m, D: Device + Drop>(
-    machine: &'m mut Machine,
+/// Locks the blocks that a call lends, in the order of slots, runs its routine, and unlocks them. If a lock is
+/// refused, it unlocks those that it has locked, and does not run the routine.
+pub(crate) fn run_lent<'m, D: Device + Drop, F: Follow + Drop>(
+    runner: &'m mut Runner<F>,
     checked: &Checked,
     call: &Call,
     kernel: &mut Kernel<D>,
@@ -186,7 +203,7 @@ pub(crate) fn run_lent<'m, D: Device + Drop>(
     ensures steadily { Steadily D.medium (vm_file_of kernel.old) (vm_file_of kernel.new) }
 {
     let lent = lock_lent(checked, call, kernel)?;
-    let outcome = run(machine, checked, call, kernel);
+    let outcome = run(runner, checked, call, kernel);
     unlock_all(kernel, lent.as_slice());
     Ok(outcome)
 }

@@ -15,10 +15,11 @@ ghost use Rattle.geos_kernel.specs.Files.{vm_file_of};
 ghost use Rattle.geos_kernel.specs.View.{SeesDevice};
 ghost use Rattle.vm_blocks.specs.Listed.{NoneLocked};
 
+use crate::lending::Runner;
 use crate::script::carry_out;
 use geos_input::{Counted, ScriptFault};
 use geos_kernel::Kernel;
-use geos_machine::Machine;
+use geos_machine::Follow;
 use geos_terms::Refusal;
 use geos_verify::Checked;
 use script_commands::{
@@ -31,10 +32,10 @@ use vm_file::Device;
 /// Carries out a command, and prints its output in a form. Returns the command's result, and the first word of its output. Its plain text
 /// has at most 1,024 lines of six bytes. `Memory` if there is no memory for that or for the text in the form, `Write` if the writer fails;
 /// the command is done in both cases.
-fn carry_out_noting<W: Write, D: Device + Drop>(
+fn carry_out_noting<W: Write, D: Device + Drop, F: Follow + Drop>(
     alloc: Global,
     form: Form,
-    machine: &mut Machine,
+    runner: &mut Runner<F>,
     checked: &Checked,
     command: &Command,
     kernel: &mut Kernel<D>,
@@ -56,7 +57,7 @@ fn carry_out_noting<W: Write, D: Device + Drop>(
     ensures kept { KeptUnless Write result out.old.failures out.new.failures }
 {
     let mut plain = Counted::new(Vec::new(alloc));
-    match carry_out(machine, checked, command, kernel, &mut plain) {
+    match carry_out(runner, checked, command, kernel, &mut plain) {
         Ok(done) => {
             let text = shown_in(alloc, form, checked, command, &plain.stream)?;
             write(out, &text)?;
@@ -68,22 +69,22 @@ fn carry_out_noting<W: Write, D: Device + Drop>(
 
 /// How far a script is: what lasts from one of its commands to the next.
 #[derive(Drop)]
-pub struct Progress {
-    /// The machine that runs its calls.
-    machine: Machine,
+pub struct Progress<F> {
+    /// What runs its calls.
+    runner: Runner<F>,
     /// The first pc of an instruction of the image that commits.
     first: Option<usize>,
     /// Whether the last command may have committed.
     behind: bool,
 }
 
-impl Progress {
-    /// Before the first command.
-    pub fn new(checked: &Checked) -> Progress
-        ensures { IsBegunOn checked.now result }
+impl<F: Follow + Drop> Progress<F> {
+    /// Before the first command. The follower learns how far each run is.
+    pub fn new(checked: &Checked, follower: F) -> Progress<F>
+        ensures { IsBegunOn checked.now result.first }
     {
         Progress {
-            machine: Machine::new(),
+            runner: Runner::new(follower),
             first: first_commit(checked.image().points()),
             behind: false,
         }
@@ -104,12 +105,12 @@ impl Progress {
     ) -> Result<(Result<(), Refusal>, Option<u16>), ScriptFault>
         requires admitted { IsAdmitted checked.now command.now }
         requires unlocked { NoneLocked kernel.old.core.blocks }
-        requires begun { IsBegunOn checked.now self.old }
+        requires begun { IsBegunOn checked.now self.old.first }
         ensures ok { IfOk result (λ came. RanNoting D.medium form checked.now command.now came.0 came.1 kernel.old kernel.new
             (W.contents out.old.stream) (W.contents out.new.stream)) }
         ensures stopped { IfErr result (λ _. StoppedNext D.medium form checked.now command.now kernel.old kernel.new
             (W.contents out.old.stream) (W.contents out.new.stream)) }
-        ensures begun { IsBegunOn checked.now self.new }
+        ensures begun { IsBegunOn checked.now self.new.first }
         ensures honest { D.medium.honest kernel.new.device ↔ D.medium.honest kernel.old.device }
         ensures unlocked { NoneLocked kernel.new.core.blocks }
         ensures sees { SeesDevice D.medium kernel.old × SeesDevice D.medium kernel.new }
@@ -123,14 +124,6 @@ impl Progress {
         let ahead = may_commit(checked, self.first, command);
         give_before(self.behind, ahead, out)?;
         self.behind = ahead;
-        carry_out_noting(
-            alloc,
-            form,
-            &mut self.machine,
-            checked,
-            command,
-            kernel,
-            out,
-        )
+        carry_out_noting(alloc, form, &mut self.runner, checked, command, kernel, out)
     }
 }

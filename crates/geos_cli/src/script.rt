@@ -24,10 +24,10 @@ ghost use Rattle.geos_image.specs.Reading.{image_at};
 ghost use Rattle.geos_verify.specs.Rules.{Accepted};
 ghost use Rattle.geos_text.specs.Words.{words};
 
-use crate::lending::run_lent;
+use crate::lending::{Runner, run_lent};
 use geos_input::{Counted, MOST_BYTES, ScriptFault};
 use geos_kernel::Kernel;
-use geos_machine::Machine;
+use geos_machine::{Follow, Unwatched};
 use geos_terms::Refusal;
 use geos_verify::{Checked, check};
 use script_commands::{
@@ -75,8 +75,8 @@ fn commit_kernel<D: Device + Drop>(kernel: &mut Kernel<D>, how: How) -> Result<(
 
 /// Carries out a command, prints the output of a call or the number of a refusal, and returns the command's result. Output before a
 /// command that may commit has been flushed.
-pub(crate) fn carry_out<W: Write, D: Device + Drop>(
-    machine: &mut Machine,
+pub(crate) fn carry_out<W: Write, D: Device + Drop, F: Follow + Drop>(
+    runner: &mut Runner<F>,
     checked: &Checked,
     command: &Command,
     kernel: &mut Kernel<D>,
@@ -99,7 +99,7 @@ pub(crate) fn carry_out<W: Write, D: Device + Drop>(
     ensures failed { IfErr result (λ fault. (fault ≡ Write) × Rose out.old.failures out.new.failures) }
 {
     match command {
-        Command::Call(call) => match run_lent(machine, checked, call, kernel) {
+        Command::Call(call) => match run_lent(runner, checked, call, kernel) {
             Ok(outcome) => {
                 print(outcome.output.as_slice(), out)?;
                 Ok(Ok(()))
@@ -154,7 +154,7 @@ pub(crate) fn carry_out_all<W: Write, D: Device + Drop>(
     ensures kept { IfOk result (λ _. out.new.failures ≡ out.old.failures) }
     ensures failed { IfErr result (λ fault. (fault ≡ Write) × Rose out.old.failures out.new.failures) }
 {
-    let mut machine = Machine::new();
+    let mut runner = Runner::new(Unwatched);
     // what a stop before the first command leaves
     kernel.memory_is_legal();
     let first = first_commit(checked.image().points());
@@ -163,7 +163,7 @@ pub(crate) fn carry_out_all<W: Write, D: Device + Drop>(
         let ahead = may_commit(checked, first, &numbered.command);
         give_before(behind, ahead, out)?;
         behind = ahead;
-        let done = carry_out(&mut machine, checked, &numbered.command, kernel, out)?;
+        let done = carry_out(&mut runner, checked, &numbered.command, kernel, out)?;
         if let Some(refused) = ended_by(mode, numbered.line, done) {
             return Ok(Some(refused));
         }

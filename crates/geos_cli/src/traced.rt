@@ -139,12 +139,12 @@ fn trace_lent<D: Device + Drop, W: Watch>(
     Ok(outcome)
 }
 
-/// Checks an image and runs one routine of it, as `run_call` does, but prints nothing: it gives what the run output, and notes of its steps, as
-/// many and of the routines that the call names; or the refusal of a block that it is lent and that can't be locked. All
-/// memory is taken before.
+/// Checks an image and runs one routine of it, as `run_call` does, but prints nothing. It returns the output of the
+/// run and a trace: as many steps, of the routines, as the call requests. If a block that the call lends can't be
+/// locked, it returns that refusal. It allocates all memory before the run.
 ///
-/// Of the faults, the first that is due is answered, and nothing has run then: those of `run_call`, except for `Write`; `NoRoutine` if no
-/// routine has the name `only`.
+/// It reports the first fault, and then nothing has run: the faults of `run_call`, except for `Write`; and
+/// `NoRoutine` if no routine has the name `only`.
 pub fn trace_call<D: Device + Drop>(
     alloc: Global,
     call: &NotedCall<'_, '_>,

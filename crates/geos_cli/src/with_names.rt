@@ -14,12 +14,14 @@ ghost use Rattle.geos_kernel.specs.Files.{vm_file_of};
 ghost use Rattle.geos_kernel.specs.View.{SeesDevice};
 ghost use Rattle.vm_blocks.specs.Listed.{NoneLocked};
 
+use crate::in_form::RunOptions;
 use crate::progress::Progress;
-use crate::script::{Mode, RefusedCommand, ended_by, load};
+use crate::script::{RefusedCommand, ended_by, load};
 use geos_input::{Counted, MOST_BYTES, ScriptFault};
 use geos_kernel::Kernel;
+use geos_machine::Follow;
 use geos_verify::Checked;
-use script_commands::{Form, Line, command_in, first_bad, keep, lines_said};
+use script_commands::{Line, command_in, first_bad, keep, lines_said};
 use std::alloc::Global;
 use std::io::Write;
 use vm_file::Device;
@@ -35,19 +37,18 @@ pub enum EarlyEnd {
 }
 
 /// Carries out the lines one after another, as `carry_out_all_in_form` does commands, each with numbers in the place of names.
-fn carry_out_lines<W: Write, D: Device + Drop>(
+fn carry_out_lines<W: Write, D: Device + Drop, F: Follow + Drop>(
     alloc: Global,
-    form: Form,
-    mode: Mode,
+    options: RunOptions<F>,
     checked: &Checked,
     lines: &[Line],
     kernel: &mut Kernel<D>,
     out: &mut Counted<W>,
 ) -> Result<Option<EarlyEnd>, ScriptFault>
     requires unlocked { NoneLocked kernel.old.core.blocks }
-    ensures ran { IfOk result (λ end. RanLines D.medium form mode checked.now (map said_by lines.now) end kernel.old kernel.new
+    ensures ran { IfOk result (λ end. RanLines D.medium options.form options.mode checked.now (map said_by lines.now) end kernel.old kernel.new
         (W.contents out.old.stream) (W.contents out.new.stream)) }
-    ensures stopped { IfErr result (λ _. StoppedLines D.medium form mode checked.now (map said_by lines.now) kernel.old kernel.new
+    ensures stopped { IfErr result (λ _. StoppedLines D.medium options.form options.mode checked.now (map said_by lines.now) kernel.old kernel.new
         (W.contents out.old.stream) (W.contents out.new.stream)) }
     ensures honest { D.medium.honest kernel.new.device ↔ D.medium.honest kernel.old.device }
     ensures unlocked { NoneLocked kernel.new.core.blocks }
@@ -57,7 +58,12 @@ fn carry_out_lines<W: Write, D: Device + Drop>(
     ensures failed { IfErr result (λ fault. fault ≡ Write → Rose out.old.failures out.new.failures) }
     ensures kept { KeptUnless Write result out.old.failures out.new.failures }
 {
-    let mut progress = Progress::new(checked);
+    let RunOptions {
+        form,
+        mode,
+        follower,
+    } = options;
+    let mut progress = Progress::new(checked, follower);
     kernel.memory_is_legal();
     let mut names = Vec::new(alloc);
     for line in lines {
@@ -98,10 +104,9 @@ fn good_lines<'a>(
 /// `EarlyEnd::BadLine`, and all earlier lines are done.
 ///
 /// The faults are those of `run_script_in_form`, and `Memory` also if there is no memory for a line or a name.
-pub fn run_script_with_names<W: Write, D: Device + Drop>(
+pub fn run_script_with_names<W: Write, D: Device + Drop, F: Follow + Drop>(
     alloc: Global,
-    form: Form,
-    mode: Mode,
+    options: RunOptions<F>,
     image: &[u8],
     script: &[u8],
     kernel: &mut Kernel<D>,
@@ -110,14 +115,14 @@ pub fn run_script_with_names<W: Write, D: Device + Drop>(
     requires unlocked { NoneLocked kernel.old.core.blocks }
     // Each line did what the same line with numbers does in the plain form, and the writer got what they printed, in this form. After a stop
     // at any moment, opening the file finds what the model's run of the lines has committed in one of its states.
-    ensures ran { IfOk result (λ end. RanNamedScript D.medium form mode image.now script.now end kernel.old kernel.new
+    ensures ran { IfOk result (λ end. RanNamedScript D.medium options.form options.mode image.now script.now end kernel.old kernel.new
         (W.contents out.old.stream) (W.contents out.new.stream)) }
     ensures due { IfErr result (NamedScriptEndsBy image.now script.now) }
     // Nothing ran and nothing was written, or some lines ran, and the writer got a prefix of their text. A stop then leaves
     // what the model's run of these has committed.
     ensures left { IfErr result (λ fault. Leaves fault
         ((kernel.new ≡ kernel.old) × Keeps (W.contents out.old.stream) (W.contents out.new.stream))
-        (StoppedNamedScript D.medium form mode image.now script.now kernel.old kernel.new (W.contents out.old.stream) (W.contents out.new.stream))) }
+        (StoppedNamedScript D.medium options.form options.mode image.now script.now kernel.old kernel.new (W.contents out.old.stream) (W.contents out.new.stream))) }
     ensures honest { D.medium.honest kernel.new.device ↔ D.medium.honest kernel.old.device }
     ensures unlocked { NoneLocked kernel.new.core.blocks }
     ensures sees { SeesDevice D.medium kernel.old × SeesDevice D.medium kernel.new }
@@ -131,5 +136,5 @@ pub fn run_script_with_names<W: Write, D: Device + Drop>(
     }
     let checked = load(alloc, image)?;
     let lines = good_lines(alloc, &checked, script)?;
-    carry_out_lines(alloc, form, mode, &checked, &lines, kernel, out)
+    carry_out_lines(alloc, options, &checked, &lines, kernel, out)
 }

@@ -7,7 +7,7 @@ use Rattle.geos_input.specs.Hex.{digit_of, digits_of, is_hex_line, is_end, hex_l
 abbrev pub not_hex : List ℕ → Bool
 not_hex line = not (is_hex_line line)
 
--- the fault of the lines from number n on, with these digits in front of them
+-- the fault of the lines from number n on, after lines with these digits
 abbrev pub hex_fault_after : ℕ → List ℕ → List (List ℕ) → Option ℕ
 hex_fault_after n digits lines = first_hex_fault (position_from not_hex n (hex_lines lines)) (position_from is_end n lines)
     (digits ++ digits_of (hex_lines lines))
@@ -15,7 +15,7 @@ hex_fault_after n digits lines = first_hex_fault (position_from not_hex n (hex_l
 same-fault : (a b c d : Option ℕ) (digits others : List ℕ) → a ≡ b → c ≡ d → digits ≡ others → first_hex_fault a c digits ≡ first_hex_fault b d others
 same-fault a b c d digits others e f h = ap (λ x. first_hex_fault x c digits) e ∙ ap (λ x. first_hex_fault b x digits) f ∙ ap (first_hex_fault b d) h
 
--- a line in front of `end`
+-- a line before `end`
 pub hex_lines-more : (line : List ℕ) (lines : List (List ℕ)) → is_end line ≡ false → hex_lines (line ∷ lines) ≡ line ∷ hex_lines lines
 hex_lines-more line lines e =
     let one : 1 + position_or_len is_end lines ≡ suc (position_or_len is_end lines) = omega arith in
@@ -58,13 +58,13 @@ fault-end n digits line lines e =
     let ends : position_from is_end n (line ∷ lines) ≡ Some n = rw e refl in
     same-fault _ _ _ _ _ _ (ap (position_from not_hex n) front) ends (ap (λ ls. digits ++ digits_of ls) front ∙ append-nil digits)
 
--- the line `end` behind an even number of digits
+-- the line `end` after an even number of digits
 pub fault-even : (n : ℕ) (digits line : List ℕ) (lines : List (List ℕ)) → is_end line ≡ true → length digits % 2 ≡ 0
     → hex_fault_after n digits (line ∷ lines) ≡ None
 fault-even n digits line lines e even = let none : first_hex_fault None (Some n) digits ≡ None = rw even refl in
     fault-end n digits line lines e ∙ none
 
--- the line `end` behind an odd number of digits
+-- the line `end` after an odd number of digits
 pub fault-odd : (n : ℕ) (digits line : List ℕ) (lines : List (List ℕ)) → is_end line ≡ true → length digits % 2 ≡ 1
     → hex_fault_after n digits (line ∷ lines) ≡ Some n
 fault-odd n digits line lines e odd = let some : first_hex_fault None (Some n) digits ≡ Some n = rw odd refl in fault-end n digits line lines e ∙ some

@@ -12,19 +12,19 @@ use Rattle.geos_text.specs.Words.{is_blank, words}
 abbrev pub digit_of : ℕ → Option ℕ
 digit_of byte = if nat_lt (digit_value byte) 16 then Some (digit_value byte) else None
 
--- digits and blanks alone
+-- only digits and blanks
 abbrev pub is_hex_line : List ℕ → Bool
 is_hex_line line = list_all (λ byte. is_blank byte || nat_lt (digit_value byte) 16) line
 
--- the word `end` alone
+-- only the word `end`
 abbrev pub is_end : List ℕ → Bool
 is_end line = pointwise bytes_eq (words line) (codes "end" ∷ [])
 
--- the lines in front of the line `end`, or all where there is none
+-- the lines before the line `end`, or all lines if there is none
 abbrev pub hex_lines : List (List ℕ) → List (List ℕ)
 hex_lines lines = before_first is_end lines
 
--- the lines behind the line `end`
+-- the lines after the line `end`
 abbrev pub script_lines : List (List ℕ) → List (List ℕ)
 script_lines lines = after_first is_end lines
 
@@ -38,8 +38,8 @@ bytes_of [] = []
 bytes_of (high ∷ []) = []
 bytes_of (high ∷ low ∷ digits) = (16 * high + low) ∷ bytes_of digits
 
--- the first of the three: a line with another character; no line `end`, which is told by 0; a
--- line `end` behind digits that are odd in number
+-- the first of three faults: a line with another character; no line `end`, reported as line 0; or a line `end` after
+-- an odd number of digits
 abbrev pub first_hex_fault : Option ℕ → Option ℕ → List ℕ → Option ℕ
 first_hex_fault (Some line) end digits = Some line
 first_hex_fault None None digits = Some 0
@@ -50,7 +50,7 @@ abbrev pub hex_fault : List (List ℕ) → Option ℕ
 hex_fault lines =
     first_hex_fault (position_from (λ line. not (is_hex_line line)) 1 (hex_lines lines)) (position_from is_end 1 lines) (digits_of (hex_lines lines))
 
--- the image in front of the line `end`
+-- the image before the line `end`
 abbrev pub image_bytes : List (List ℕ) → List ℕ
 image_bytes lines = bytes_of (digits_of (hex_lines lines))
 
@@ -58,7 +58,7 @@ image_bytes lines = bytes_of (digits_of (hex_lines lines))
 abbrev pub digits_in : List ℕ → Option ℕ → List ℕ
 digits_in bytes high = flat_map (λ byte. byte / 16 ∷ byte % 16 ∷ []) bytes ++ option_to_list high
 
--- digits are taken behind those that are in bytes and a last one
+-- the digits are added after those that are already in bytes, and after a last one without its pair
 abbrev pub Takes : List ℕ → Option ℕ → List ℕ → Option ℕ → List ℕ → Type 0
 Takes bytes high new_bytes new_high digits = digits_in new_bytes new_high ≡ digits_in bytes high ++ digits
 

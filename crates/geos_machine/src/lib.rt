@@ -21,4 +21,4 @@ pub use call::RoutineCall;
 pub use machine::{Machine, admits};
 pub use outcome::Outcome;
 pub use trace::{Left, Noted, Trace};
-pub use watch::{Unwatched, Watch};
+pub use watch::{Follow, Unwatched, Watch};

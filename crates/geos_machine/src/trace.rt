@@ -12,11 +12,11 @@ use std::alloc::{AllocError, Global};
 use std::marker::Model;
 
 /// How control left an instruction.
-#[derive(Clone, Copy, Debug, PartialEq, Eq)]
+#[derive(Clone, Copy)]
 pub enum Left {
     /// On to the next instruction.
     On,
-    /// To the instruction's target: a test held, or the instruction was refused.
+    /// To the instruction's target: its test was true, or the instruction was refused.
     ToTarget,
     /// To a routine that it called.
     Calling,

@@ -9,7 +9,7 @@ ghost use Rattle.vm_file.specs.State.{Steadily};
 ghost use Rattle.geos_kernel.specs.Files.{vm_file_of};
 ghost use Rattle.geos_kernel.specs.View.{IsFileOf, SeesDevice};
 ghost use Rattle.geos_machine.specs.Lent.{Lends};
-ghost use Rattle.geos_entry.specs.Entry.{admits, entry_slots};
+ghost use Rattle.geos_verify.specs.Entry.{admits, entry_slots};
 ghost use Rattle.geos_machine.specs.Runs.{Throughout};
 ghost use Rattle.geos_machine.specs.Traces.{IsEmpty, Traced};
 

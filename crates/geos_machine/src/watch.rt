@@ -13,9 +13,29 @@ pub trait Watch {
     fn sees<D: Device + Drop>(&mut self, machine: &Machine, pc: u16, kernel: &Kernel<D>);
 }
 
+/// Follows how far a run is.
+pub trait Follow {
+    /// A run begins, with so many steps.
+    fn begins(&mut self, budget: usize);
+
+    /// Control jumps back, or to a routine that is called. The run has so many steps left.
+    fn jumps(&mut self, left: usize);
+
+    /// The run has ended.
+    fn ends(&mut self);
+}
+
 /// Nobody looks on.
 #[derive(Drop)]
 pub struct Unwatched;
+
+impl Follow for Unwatched {
+    fn begins(&mut self, _budget: usize) {}
+
+    fn jumps(&mut self, _left: usize) {}
+
+    fn ends(&mut self) {}
+}
 
 impl Watch for Unwatched {
     fn sees<D: Device + Drop>(&mut self, _machine: &Machine, _pc: u16, _kernel: &Kernel<D>) {}

@@ -109,7 +109,7 @@ none-walked uses routine all = record {
   lent = All-nil (IsLent uses);
 }
 
--- numbers stand in front of the blocks, and no block in front of those
+-- in a call's words the numbers come before the blocks, and the numbers contain no block
 split : (uses : NameUse) (numbers blocks : List (List ℕ)) → All (λ w. names_block w ≡ false) numbers → All (IsLent uses) blocks
     → (before_blocks (numbers ++ blocks) ≡ numbers) × (from_blocks (numbers ++ blocks) ≡ blocks)
 split uses [] [] none lent = (refl, refl)
@@ -190,7 +190,7 @@ call-so uses image ws name numbers fault order (inl (inr (word, is, ninth))) =
 call-so uses image ws name numbers fault order (inr (given, wanted, is, lends)) =
     subst (IsSo uses image ws) (sym is) (name, numbers, order, lends)
 
--- what is found behind `call` is found of the command
+-- the result for the words after `call` is the result for the command
 pub command-found : (uses : NameUse) (image : Parts) (ws rest : List (List ℕ)) (result : Option Fault)
     → command_words uses ws ≡ codes "call" ∷ rest → IsFoundBehindCall uses image rest result → IsFoundOfCommand uses image ws result
 command-found uses image ws rest None order (name, numbers, is, fits) = inr (inr (name, numbers, order ∙ ap (λ r. codes "call" ∷ r) is, fits))
@@ -200,13 +200,13 @@ command-found uses image ws rest (Some fault) order (inr (inl so)) = word-so use
 command-found uses image ws rest (Some fault) order (inr (inr (name, numbers, is, found))) =
     call-so uses image ws name numbers fault (order ∙ ap (λ r. codes "call" ∷ r) is) found
 
--- a line that begins with `call` has its words behind that
+-- a line that begins with `call` is `call` and the words after it
 pub call-begins : (ws : List (List ℕ)) → begins_as_call ws ≡ true → (others : List (List ℕ)) × (ws ≡ codes "call" ∷ others)
 call-begins [] e = absurd cc
 call-begins (w ∷ ws) e = (ws, ap (λ v. v ∷ ws) ((bytes_eq-Decides w (codes "call")).0 e))
 
 module _ (image : Parts) (ws : List (List ℕ)) (arrow : Word) (behind : List (List ℕ)) (has : HasArrow ws arrow.bytes.now behind) where
-  -- what is found behind `->` is found of the line
+  -- the result for the words after `->` is the result for the line
   pub behind-found : begins_as_call ws ≡ true → (result : Option Fault) → IsFoundBehindArrow image behind result
       → IsFoundOfKeeping Allowed image ws result
   behind-found call None (name, is, names) =
@@ -223,7 +223,7 @@ module _ (image : Parts) (ws : List (List ℕ)) (arrow : Word) (behind : List (L
       } in
       subst (IsSo Allowed image ws) (sym is) second
 
--- what is found of the words behind a name is found behind `call`
+-- the result for the words after a routine's name is the result for the words after `call`
 pub name-found : (uses : NameUse) (image : Parts) (name : List ℕ) (numbers ws : List (List ℕ)) (result : Option Fault) → ws ≡ name ∷ numbers
     → IsFoundOfCall uses image name numbers result → IsFoundBehindCall uses image ws result
 name-found uses image name numbers ws None order found = (name, numbers, order, found)

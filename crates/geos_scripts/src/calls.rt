@@ -120,8 +120,8 @@ fn pass<'a>(
     }
 }
 
-/// What is wrong with the words after the name of a public routine, which are from an index on: the first one that does not fit, or how
-/// many blocks are lent.
+/// The fault in the words after the name of a public routine, from an
+/// index on: the first word that does not fit, or the number of blocks.
 fn words_fault<'a>(
     image: &Image,
     r: u16,

@@ -23,25 +23,25 @@ pub(crate) enum Fault<'a> {
     TooHigh(Word<'a>),
     /// Its number is above this bound, of the word w of this index.
     PastBound(Word<'a>, u16, usize),
-    /// It comes after a block, and is none.
+    /// It comes after a block, and is no block.
     NumberBehind(Word<'a>),
     /// It is `@`, and no number after it.
     NoHandle(Word<'a>),
     /// The number after its `@` is above 65,535.
     HighHandle(Word<'a>),
-    /// How many blocks the call lends, and how many other ones the routine borrows.
+    /// How many blocks the call passes, and how many others the routine borrows.
     Lent(usize, usize),
     /// It is a name or keeps one, in a script whose lines may not write names.
     NotAllowed(Word<'a>),
     /// It is a name that no line before keeps.
     NotKept(Word<'a>),
-    /// It is a `->` that comes after no call.
+    /// It is a `->` that does not follow a call.
     ArrowAlone(Word<'a>),
     /// It is a `->` with nothing after it.
     NothingKept(Word<'a>),
     /// It comes after `->`, and is no name.
     BadName(Word<'a>),
-    /// It comes after a name that the line stores.
+    /// It comes after the name under which the line stores a word.
     SecondName(Word<'a>),
     /// It is a name that the line stores after too many others.
     NameTooMany(Word<'a>),

@@ -13,14 +13,14 @@ pub enum NameUse {
     Refused,
 }
 
-/// What a line may write in place of a number, after the lines before it.
+/// What a line may contain instead of a number, after the lines before it.
 #[derive(Drop)]
 pub(crate) struct Names<'a> {
     /// Whether lines may write names.
     pub(crate) uses: NameUse,
     /// The names that lines so far keep, if they may.
     kept: Vec<&'a [u8]>,
-    /// The lines that are to come, and how many came.
+    /// The lines that are still to be read, and how many were read.
     rest: &'a [u8],
     passed: usize,
 }
@@ -39,7 +39,7 @@ impl<'a> Names<'a> {
     ghost use Rattle.std.specs.Prelude.{◌≡◌};
     ghost use Rattle.geos_scripts.specs.Uses.{may_write};
 
-    /// No line of the script has come.
+    /// No line of the script has been read.
     pub(crate) fn new(alloc: Global, script: &'a [u8], uses: NameUse) -> Names<'a> {
         Names {
             uses,
@@ -49,7 +49,7 @@ impl<'a> Names<'a> {
         }
     }
 
-    /// Goes on to a line: all before it come.
+    /// Continues to a line: reads all lines before it.
     pub(crate) fn come_to(&mut self, line: &Line) -> Result<(), AllocError> {
         let before = line.number.saturating_sub(1);
         while self.passed < before && !self.rest.is_empty() {
@@ -77,7 +77,7 @@ impl<'a> Names<'a> {
         self.kept.len() >= MOST_KEPT
     }
 
-    /// Whether a line that came keeps a word under the name that this says after its `$`.
+    /// Whether a line that was read stores a word under the name after this word's `$`.
     pub(crate) fn have(&self, said: &[u8]) -> bool {
         let Some((b'$', name)) = said.split_first() else {
             return false;

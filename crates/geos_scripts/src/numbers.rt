@@ -32,7 +32,7 @@ fn begins_as_name(word: &[u8]) -> bool
     }
 }
 
-/// What a word says after `@`, if it names a block.
+/// The part of a word after `@`, if it names a block.
 pub(crate) fn behind_at(word: &[u8]) -> Option<&[u8]>
     ensures none { IfNone result (names_block word.now ≡ false) }
     ensures some { IfSome result (λ said. word.now ≡ 64 ∷ said.now) }
@@ -43,7 +43,7 @@ pub(crate) fn behind_at(word: &[u8]) -> Option<&[u8]>
     }
 }
 
-/// What is wrong with a word that is a name or keeps one, if this is in place of a number.
+/// The fault of a word that is a name or stores one, if the word is used instead of a number.
 fn name_fault<'a>(names: &Names, word: Word<'a>, said: &[u8]) -> Option<Fault<'a>>
     requires { IsNamed word.bytes.now }
     ensures none { IfNone result (names.now.uses ≡ Allowed) }
@@ -116,7 +116,7 @@ pub(crate) fn number_fault<'a>(
     }
 }
 
-/// What is wrong with the handle of a block, which a word says after `@`.
+/// The fault of the handle of a block, the part of a word after `@`.
 fn handle_fault<'a>(names: &Names, word: Word<'a>, said: &[u8]) -> Option<Fault<'a>>
     requires { word.bytes.now ≡ 64 ∷ said.now }
     ensures { IsFoundOfBlock names.now.uses word.entry result }
@@ -131,7 +131,7 @@ fn handle_fault<'a>(names: &Names, word: Word<'a>, said: &[u8]) -> Option<Fault<
     }
 }
 
-/// What is wrong with a block that is lent.
+/// The fault of a block that is passed.
 pub(crate) fn block_fault<'a>(names: &Names, word: Word<'a>) -> Option<Fault<'a>>
     ensures { IsFoundOfBlock names.now.uses word.entry result }
 {

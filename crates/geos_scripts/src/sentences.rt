@@ -94,7 +94,7 @@ fn put_names(out: &mut Text, image: &Image) {
     }
 }
 
-/// A call lends so many blocks, and the routine borrows another number of them.
+/// A call passes so many blocks, and the routine borrows another number of them.
 fn put_lent(out: &mut Text, given: usize, wanted: usize) {
     out.put_number("blocks that are lent, as by @1: ", given as u64);
     out.put_number("; that the routine borrows: ", wanted as u64);

@@ -18,7 +18,7 @@ use script_commands::{Line, bad_lines, bad_lines_with_names};
 use sentence_text::Text;
 use std::alloc::{AllocError, Global};
 
-/// What there is to say of the bad lines of a script.
+/// The report on the bad lines of a script.
 #[derive(Drop)]
 pub struct BadLines {
     /// A line on each of the first 1,000 of them, in their order, and how many more there are.
@@ -107,7 +107,7 @@ fn first_number(lines: &[Line]) -> Option<usize>
     }
 }
 
-/// What there is to say of the bad lines of a script for a checked image. Its lines may write names, or may not.
+/// The report on the bad lines of a script for a checked image. Its lines may use names, or may not.
 fn told_of(
     alloc: Global,
     checked: &Checked,
@@ -127,9 +127,9 @@ fn told_of(
     Ok(BadLines { told, first })
 }
 
-/// What there is to say of the bad lines of a script, for the image that the bytes encode. Its lines may write names for words
-/// that calls output, or may not. Nothing runs. The faults are those of a script that are found before it runs, except for its
-/// bad lines.
+/// The report on the bad lines of a script, for the image that the bytes encode. Its lines may use names for words that
+/// calls output, or may not. Nothing runs. The faults are those of a script that are found before it runs, except for
+/// its bad lines.
 pub fn tell_bad_lines(
     alloc: Global,
     image: &[u8],

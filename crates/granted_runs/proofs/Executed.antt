@@ -8,7 +8,7 @@ use Rattle.geos_terms.specs.declared.name.Owner.TheVariants as owner
 use Rattle.geos_terms.specs.Names.{mem, vm}
 use Rattle.geos_terms.specs.Refusals.{first_refusal}
 use Rattle.geos_calls.specs.Memory.{Memory, at_handle, lowest_handle}
-use Rattle.geos_calls.proofs.HandleLists.{lowest-none}
+use Rattle.geos_calls.proofs.HandleLists.{allowed-none}
 use Rattle.geos_calls.specs.Effects.{Choice, Effect, Reference, Call, come_to, outcome}
 use Rattle.geos_calls.specs.Calls.{mnew, mlock, unlock, mfree, store, copy}
 use Rattle.geos_calls.specs.ChunkCalls.{change_row, make_row, ask_row, refer_row}
@@ -87,7 +87,7 @@ none-mem k e = absurd cc
 new-none : (m : Memory) (k : ℕ) → Some (mem (unwrap_or (lowest_handle m owner.Mem) 0)) ≡ Some (mem k) → at_handle None m.blocks k ≡ None
 new-none m k e =
     let same : mem (unwrap_or (lowest_handle m owner.Mem) 0) ≡ mem k = cc in
-    subst (λ h. at_handle None m.blocks h ≡ None) (ap (λ (n : Name). n.h) same) (lowest-none m.blocks)
+    subst (λ h. at_handle None m.blocks h ≡ None) (ap (λ (n : Name). n.h) same) (allowed-none m.handles m.blocks)
 
 -- What calls leave
 

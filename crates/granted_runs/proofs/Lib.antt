@@ -1,3 +1,4 @@
+pub mod Above
 pub mod Asked
 pub mod Executed
 pub mod Aims

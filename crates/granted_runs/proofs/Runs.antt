@@ -44,13 +44,13 @@ module _ (image : Parts) (checked : IsChecked image) (base : Base) (root : ℕ) 
   abbrev pub AreOfRoot : State → Type 0
   AreOfRoot t = Stands IsOfRoot Lacks base t
 
-  -- what is kept where a run ends
+  -- what holds at the end of a run
   abbrev pub EndKeeps : State → Ending → Type 0
   EndKeeps s Faulted = Unit {0}
   EndKeeps s (Running t) = Keeps Lacks honest base s t
   EndKeeps s (Returned n t) = Keeps Lacks honest base s t
 
-  -- the file keeps what it kept
+  -- the committed pair does not change
   abbrev pub SameKept : State → List Kept → Type 0
   SameKept s keeps = Lacks effect.Commits → Each (λ (kept : Kept). kept ≡ s.memory.file.kept) keeps
 
@@ -125,7 +125,7 @@ module _ (image : Parts) (checked : IsChecked image) (base : Base) (root : ℕ) 
 
 -- Stops
 
--- `open` finds what was kept at first, where only that was kept
+-- `open` finds the first committed pair if there was no other
 pub opens-kept : (kept : Kept) (keeps : List Kept) (c : List ℕ) → Each (λ (other : Kept). other ≡ kept) keeps → OpensAsOneOf keeps c → OpensAsKept kept c
 opens-kept kept [] c same opens = absurd opens
 opens-kept kept (other ∷ keeps) c same (inl opens) = subst (λ (k : Kept). OpensAsKept k c) same.0 opens

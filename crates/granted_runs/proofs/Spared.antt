@@ -16,7 +16,7 @@ use Rattle.geos_calls.specs.Effects.{Choice, come_to, outcome}
 use Rattle.geos_calls.specs.VmCalls.{committed, in_doubt, keep_current, keep_saved, pair_to_keep, left_by_commit}
 use Rattle.geos_calls.specs.Leaving.{IsWithin, scope_of, new_mem}
 use Rattle.geos_calls.specs.Table.{KernelCall, Mnew, Mlock, Mfree, Unlock, Changes, Makes, Store, Copy, Vnew, LockListed, Vlock, Vdirty, FreeListed, Vfree, Vupdate, Vsave, Vrevert, Gnew, Gfree, ChangesItem, MakesItem, Ilock, row}
-use Rattle.geos_calls.proofs.HandleLists.{entry-told, entry-each, lowest-none}
+use Rattle.geos_calls.proofs.HandleLists.{allowed-none, entry-told, entry-each}
 use Rattle.geos_calls.proofs.NamedBlocks.{changed_in, relisted-changed}
 use Rattle.geos_calls.proofs.Leaves.{rows_leave}
 use Rattle.geos_opcodes.specs.declared.opcode.Opcode.{Opcode}
@@ -195,7 +195,7 @@ module _ (moment : Moment) (opcode : Opcode) (choice : Choice) where
       made : new_mem s.memory ≡ mem h → ⊥
       made same =
           let none : at_handle None s.memory.blocks h ≡ None =
-          subst (λ k. at_handle None s.memory.blocks k ≡ None) (ap (λ (n : Name). n.h) same) (lowest-none s.memory.blocks) in
+          subst (λ k. at_handle None s.memory.blocks k ≡ None) (ap (λ (n : Name). n.h) same) (allowed-none s.memory.handles s.memory.blocks) in
           let unlocked : locks_of s.memory (mem h) ≡ 0 = ap locks_in none in
           omega (arith, unlocked, locked)
 

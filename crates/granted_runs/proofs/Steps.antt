@@ -27,12 +27,13 @@ use Rattle.geos_grants.specs.declared.effect.Effect.{Effect}
 use Rattle.geos_grants.specs.declared.effect.Effect.TheVariants as effect
 use Rattle.geos_grants.specs.Effects.{uses_memory, locks_by_handle, changes_file, is_mem, is_own_in_file, state_at, changed_at, does}
 use Rattle.granted_runs.specs.Keeps.{Keeps, IsSteady, stored_at}
+use Rattle.granted_runs.proofs.Above.{above-free}
 use Rattle.granted_runs.proofs.Asked.{asked, is_commit, is_map, no-commit, no-keeper, no-save, no-map, no-block_map, no-item_map}
 use Rattle.granted_runs.proofs.Executed.{CameOf, OfNext, Executed, executed}
 use Rattle.granted_runs.proofs.Aims.{Aims, aims}
 use Rattle.granted_runs.proofs.Spared.{lent-at, spares-memory, spares-locked, spares-stored}
 
--- Laws of what is kept
+-- Lemmas about what a run leaves unchanged
 
 pub keeps-same : (lacks : Effect → Type 0) (honest : Type 0) (base : Base) (s : State) → Keeps lacks honest base s s
 keeps-same lacks honest base s = record {
@@ -46,6 +47,8 @@ keeps-same lacks honest base s = record {
   blocks = λ without h. refl;
   stored = λ h steady spared. refl;
   limit = refl;
+  handles = refl;
+  above = λ h over none. none;
 }
 
 pub keeps-then : (lacks : Effect → Type 0) (honest : Type 0) (base : Base) (a b c : State) → Keeps lacks honest base a b
@@ -61,9 +64,11 @@ keeps-then lacks honest base a b c x y = record {
   locked = λ without h out. y.locked without h out ∙ x.locked without h out;
   stored = λ h steady spared. y.stored h steady spared ∙ x.stored h steady spared;
   limit = y.limit ∙ x.limit;
+  handles = y.handles ∙ x.handles;
+  above = λ h over none. y.above h (omega (arith, over, x.handles)) (x.above h over none);
 }
 
--- where more is lacking, more is kept
+-- if `few` lacks every effect that `many` lacks, what is unchanged by `few` is unchanged by `many`
 pub keeps-more : (few many : Effect → Type 0) (honest : Type 0) (base : Base) (a b : State)
     → ((of : Effect) → many of → few of) → Keeps few honest base a b → Keeps many honest base a b
 keeps-more few many honest base a b less x = record {
@@ -77,6 +82,8 @@ keeps-more few many honest base a b less x = record {
   locked = λ without h out. x.locked (less effect.LocksByHandle without) h out;
   stored = λ h steady spared. x.stored h steady (less effect.ChangesFile spared.0, λ k is. less (effect.ChangesLent k) (spared.1 k is));
   limit = x.limit;
+  handles = x.handles;
+  above = x.above;
 }
 
 -- Memory that comes of a call
@@ -114,6 +121,17 @@ module _ (choice : Choice) (old new : Memory) where
   limit-of None same = ap (λ (m : Memory). m.region) same
   limit-of (Some call) (inl same) = ap (λ (m : Memory). m.region) same
   limit-of (Some call) (inr same) = ap (λ (m : Memory). m.region) same ∙ (rows_leave.others call choice old).region
+
+  handles-of : (of : Option KernelCall) → CameOf of choice old new → new.handles ≡ old.handles
+  handles-of None same = ap (λ (m : Memory). m.handles) same
+  handles-of (Some call) (inl same) = ap (λ (m : Memory). m.handles) same
+  handles-of (Some call) (inr same) = ap (λ (m : Memory). m.handles) same ∙ (rows_leave.others call choice old).handles
+
+  above-of : (of : Option KernelCall) → CameOf of choice old new → (h : ℕ) → old.handles < h → at_handle None old.blocks h ≡ None
+      → at_handle None new.blocks h ≡ None
+  above-of None same h over none = ap (λ (m : Memory). at_handle None m.blocks h) same ∙ none
+  above-of (Some call) (inl same) h over none = ap (λ (m : Memory). at_handle None m.blocks h) same ∙ none
+  above-of (Some call) (inr same) h over none = ap (λ (m : Memory). at_handle None m.blocks h) same ∙ above-free choice old h over none call
 
 -- the fact holds of the state after a step
 pub of-next : {P R : State → Type 0} → ((t : State) → P t → R t) → (o : Outcome) → OfNext P o → OfNext R o
@@ -166,6 +184,8 @@ module _ (moment : Moment) (choice : Choice) (lacks : Effect → Type 0) (here :
     stored = λ h steady spared. stored-of of aim came h (parts-file (here effect.ChangesFile spared.0))
         (λ a is. here (effect.ChangesLent a) (spared.1 a is));
     limit = limit-of choice s.memory t.memory of came;
+    handles = handles-of choice s.memory t.memory of came;
+    above = above-of choice s.memory t.memory of came;
   }
     where
       parts-memory : LacksHere moment effect.Memory → (uses_memory G.point.instr.opcode ≡ false)
@@ -279,6 +299,8 @@ begun-keeps lacks honest base choice s S given = record {
   locked = λ without h out. refl;
   stored = λ h steady spared. steadily h steady;
   limit = refl;
+  handles = refl;
+  above = λ h over none. none;
 }
   where
     steadily : (h : ℕ) → IsSteady honest base.lends h → stored_at (given_memory choice.given s.memory) h ≡ stored_at s.memory h

@@ -6,7 +6,7 @@ use Rattle.geos_terms.specs.declared.name.Owner.TheVariants as owner
 use Rattle.geos_terms.specs.Names.{mem, vm}
 use Rattle.geos_calls.specs.Effects.{Choice}
 use Rattle.geos_calls.specs.Legal.{IsMemory}
-use Rattle.geos_calls.specs.Memory.{Memory}
+use Rattle.geos_calls.specs.Memory.{Memory, at_handle}
 use Rattle.geos_calls.specs.VmFile.{Kept, VmFile}
 use Rattle.vm_file.specs.Device.{Medium}
 use Rattle.block_handles.specs.Store.{most_of}
@@ -16,7 +16,7 @@ use Rattle.geos_image.specs.declared.row.SlotState.{SlotState}
 use Rattle.geos_image.specs.declared.row.SlotState.TheVariants.{Empty, Mem, Vm, Db}
 use Rattle.geos_image.specs.Parts.{Parts}
 use Rattle.geos_verify.specs.Rules.{IsChecked}
-use Rattle.geos_entry.specs.Entry.{admits, entry_slots}
+use Rattle.geos_verify.specs.Entry.{admits, entry_slots}
 use Rattle.geos_kernel.specs.Kernel.{IsChosen}
 use Rattle.geos_kernel.specs.View.{KernelState, memory_of}
 use Rattle.geos_semantics.specs.Lists.{Each}
@@ -46,7 +46,7 @@ denied-lacks image grants r only of denied = by (has_effect image of r) (only of
     by false has_it = refl
     by true has_it = absurd (true≢false (sym (has_it refl) ∙ denied))
 
--- at the beginning slots hold blocks of the VM file alone
+-- at the beginning slots have only blocks of the VM file
 given-vm : (state : SlotState) (h k : ℕ) → name_held (given state h) ≡ Some (mem k) → ⊥
 given-vm (Vm marked true) h k e =
     (let same : vm h ≡ mem k = cc in let never : owner.Vm ≡ owner.Mem = ap (λ (n : Name). n.owner) same in absurd cc)
@@ -67,7 +67,7 @@ each-from : {X : Type 0} (P : X → Type 0) (H : Type 0) (xs : List X) → (H �
 each-from P H [] all = tt
 each-from P H (x ∷ xs) all = ((λ h. (all h).0), each-from P H xs (λ h. (all h).1))
 
--- a run keeps what its routine can not change, and what the file had as kept where it makes no commit
+-- a run leaves unchanged what its routine can't change, and the committed pair if it makes no commit
 ran-keeps : (image : Parts) (checked : IsChecked image) (r : ℕ) (words handles : List ℕ) (memory after : Memory) (outcome : Outcome)
     (allowed : Choice → Type 0)
     → IsMemory memory → AreLent (entry_slots image r) handles memory → Each (λ n. n ≤ 65535) words → admits image r words ≡ true
@@ -113,4 +113,6 @@ ran-within medium first last image checked r words handles old new outcome f hon
           (R.stops good);
       limit = limit;
       taken = omega (arith, taken, limit);
+      highest = ap (λ (m : Memory). m.handles) R.ran.memory ∙ kept.0.handles;
+      above = λ h over none. ap (λ (m : Memory). at_handle None m.blocks h) R.ran.memory ∙ kept.0.above h over none;
     }

@@ -2,7 +2,7 @@
 
 ghost use Rattle.std.specs.Prelude.{◌≡◌, ◌≤◌, true};
 ghost use Rattle.geos_calls.specs.VmFile.{VmFile};
-ghost use Rattle.geos_entry.specs.Entry.{admits, entry_slots};
+ghost use Rattle.geos_verify.specs.Entry.{admits, entry_slots};
 ghost use Rattle.geos_kernel.specs.View.{IsFileOf};
 ghost use Rattle.geos_machine.specs.Lent.{Lends};
 ghost use Rattle.geos_machine.specs.Runs.{Gave, Throughout};
@@ -10,7 +10,7 @@ ghost use Rattle.geos_semantics.specs.Lists.{Each};
 ghost use Rattle.granted_runs.specs.Keeps.{RanWithin};
 
 use geos_kernel::Kernel;
-use geos_machine::{Machine, Outcome, RoutineCall};
+use geos_machine::{Follow, Machine, Outcome, RoutineCall};
 use vm_file::Device;
 
 /// The same words, each of which is at most 65,535.
@@ -22,21 +22,26 @@ fn copied(words: &[u16; 8]) -> [u16; 8]
     [w0, w1, w2, w3, w4, w5, w6, w7]
 }
 
-/// Runs a routine as `Machine::run_in_place` does. Let any effects be granted, such that the routine does only those (`geos_grants::grant`
-/// tests that). Then what is not granted is as before, whatever is refused:
+/// Runs a routine as `Machine::run_in_place` does. Take any set of granted effects that includes those of the routine,
+/// which `geos_grants::grant` tests. Then the run leaves the following unchanged, whatever is refused:
 ///
-/// - without `Output`, nothing is output;
-/// - without `Commits`, the file on the device is as before, at each moment of the run, and so is the saved directory;
-/// - without `Map`, the map block and the map item are as before;
-/// - without `Memory`, so are all blocks of global memory, and without `LocksByHandle` those that the caller has locked;
-/// - without `ChangesFile`, so are the user IDs, chunks and sizes of all blocks and groups of the VM file that are not lent, on a device
-///   that gives back what was written to it, and of each block that is lent to slots without `ChangesLent`, on every device.
+/// - without `Output`, the output, which stays empty;
+/// - without `Commits`, the committed pair on the device, at each moment of the run, and the saved directory;
+/// - without `Map`, the map block and the map item;
+/// - without `Memory`, all blocks of global memory, and without `LocksByHandle`, those that the caller has locked;
+/// - without `ChangesFile`, on an honest device, the user IDs, chunks and sizes of all blocks and groups of the VM file
+///   that the caller does not lend; and on every device, those of each block that the caller lends to slots without
+///   `ChangesLent`.
 ///
-/// Whatever is granted, all blocks in memory together have at most as many bytes as `Kernel::limit` let them have before.
-pub fn run_granted<'m, D: Device + Drop>(
+/// Whatever is granted, no handle above the limit on handles has a block afterwards that it did not have before, and all blocks in
+/// memory together have at most as many bytes as `Kernel::limit` let them have before.
+///
+/// `follower` learns how far the run is, as `Machine::run_in_place` tells it.
+pub fn run_granted<'m, D: Device + Drop, F: Follow>(
     machine: &'m mut Machine,
     call: &RoutineCall<'_>,
     kernel: &mut Kernel<D>,
+    follower: &mut F,
 ) -> &'m Outcome
     requires admitted { admits call.now.checked.now call.now.routine call.now.words.now ≡ true }
     requires lent { Lends kernel.old.core (entry_slots call.now.checked.now call.now.routine) call.now.handles.now }
@@ -48,13 +53,7 @@ pub fn run_granted<'m, D: Device + Drop>(
     kernel.memory_is_legal();
     let _words = copied(call.words);
     let _image = call.checked.image();
-    let outcome = machine.run_in_place(
-        call.checked,
-        call.routine,
-        call.words,
-        call.handles,
-        kernel,
-    );
+    let outcome = machine.run_in_place(call, kernel, follower);
     let _taken = kernel.taken();
     outcome
 }

@@ -5,7 +5,7 @@ use Rattle.std.specs.Borrow.{Bor}
 use Rattle.std.proofs.lemmas.List.{length-map, take-map}
 use Rattle.geos_image.specs.declared.routine.Routine.{Routine}
 use Rattle.geos_image.specs.Parts.{Parts}
-use Rattle.geos_entry.specs.Entry.{entry_slots}
+use Rattle.geos_verify.specs.Entry.{entry_slots}
 use Rattle.script_commands.specs.Lines.{before_blocks}
 use Rattle.script_commands.specs.Reading.{texts}
 use Rattle.script_commands.proofs.Registers.{before-taken}
@@ -18,7 +18,7 @@ entry-of image r routine e = rw (e, entry_slots) refl
 pub length-texts : (words : List (Bor (List ℕ))) → length (texts words) ≡ length words
 length-texts words = length-map words (λ word. word.now)
 
--- numbers in front of blocks have none behind them, however many are taken
+-- the numbers before blocks are still followed by none if only the first k are taken
 pub taken-texts : (k : ℕ) (numbers : List (Bor (List ℕ))) (ws : List (List ℕ)) → before_blocks ws ≡ texts numbers
     → before_blocks (texts (take k numbers)) ≡ take k (texts numbers)
 taken-texts k numbers ws e =

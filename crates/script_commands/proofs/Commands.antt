@@ -9,7 +9,7 @@ use Rattle.script_commands.specs.declared.command.Command.{Command}
 use Rattle.script_commands.specs.declared.command.Command.TheVariants as command
 use Rattle.geos_text.specs.Words.{is_empty}
 use Rattle.script_commands.specs.declared.command.Numbered.{Numbered}
-use Rattle.geos_entry.specs.Entry.{entry_slots}
+use Rattle.geos_verify.specs.Entry.{entry_slots}
 use Rattle.script_commands.specs.Lines.{IsAdmitted, before_blocks, from_blocks, placed, routine_named, registers_of, call_named, how_named, command_of, commands_from, commands_of, is_bad, on_line, said, may_ask}
 
 -- a line that says nothing
@@ -59,7 +59,7 @@ any-some : {T : Type 0} (o : Option T) → IfSome o (λ x. Unit {0})
 any-some None = tt
 any-some (Some x) = tt
 
--- a call is one that the machine may be asked for
+-- a call in a line is one that the machine admits
 pub call_named-admitted : (image : Parts) (name : List ℕ) (numbers : List (List ℕ))
     → IfSome (call_named image name numbers) (λ c. may_ask image c ≡ true)
 call_named-admitted image name numbers =
@@ -68,7 +68,7 @@ call_named-admitted image name numbers =
     (λ ws. and_then-some (λ c. may_ask image c ≡ true) _ (placed (entry_slots image r) (from_blocks numbers))
     (λ hs. if_admitted-some image (record { routine = r; words = ws; handles = hs }) _ refl)))
 
--- a command is one that may be asked for
+-- a command in a line is one that the machine admits
 pub command_of-admitted : (image : Parts) (ws : List (List ℕ)) → IfSome (command_of image ws) (IsAdmitted image)
 command_of-admitted image [] = tt
 command_of-admitted image (word ∷ []) = mapped (IsAdmitted image) command.Commit (how_named word) (any-some (how_named word))

@@ -16,9 +16,9 @@ h_is_5 = (codes "h", Some 5) ∷ []
 
 -- lines that write names, and what names stand for
 pub record NamesInLines : Type 0 where
-  -- a name that was set is used, also behind `@`, and other words are as they are
+  -- a name that was set is replaced by its word, also after `@`; other words are unchanged
   pub used : in_place h_is_5 (words (codes "call use $h 07 @$h @3")) ≡ Some (codes " call use 5 07 @5 @3")
-  -- what stands behind `->` is no part of the line
+  -- the words after `->` are no part of the line
   pub set : in_place h_is_5 (words (codes "call make 1 -> h")) ≡ Some (codes " call make 1")
   pub name : kept_name (words (codes "call make 1 -> h")) ≡ Some (codes "h")
   pub two_names : kept_name (words (codes "call make 1 -> h g")) ≡ None
@@ -27,7 +27,7 @@ pub record NamesInLines : Type 0 where
   pub before : in_place [] (words (codes "call use $h")) ≡ None
   pub before_at : in_place [] (words (codes "call use @$h")) ≡ None
   pub other : in_place h_is_5 (words (codes "call use $H")) ≡ None
-  -- of two words that are kept under a name the later counts, and none where the last call put out none
+  -- of two words under one name the later counts; the name has no word if the last call output none
   pub later : word_of (codes "h") ((codes "h", Some 5) ∷ (codes "g", Some 6) ∷ (codes "h", Some 7) ∷ []) ≡ Some 7
   pub gone : word_of (codes "h") ((codes "h", Some 5) ∷ (codes "h", None) ∷ []) ≡ None
 

@@ -4,7 +4,7 @@ use Rattle.std.specs.Prelude.{bytes_eq, if◌then◌else◌, slice_index_or}
 use Rattle.script_commands.specs.declared.kept.Kept.{Kept}
 use Rattle.script_commands.specs.Names.{names_of, word_behind}
 
--- where a name is the one that is looked for, and none behind it is, its word is found
+-- the search finds the word of a name if no later name is the same
 pub last-under : (name : List ℕ) (ks : List Kept) (n : ℕ) (d e : Kept) → n < length ks
     → ((found : Option ℕ) → word_behind found name (names_of (drop (suc n) ks)) ≡ found)
     → bytes_eq (slice_index_or ks n e).name.now name ≡ true

@@ -1,4 +1,4 @@
--- Whether an instruction that commits stands in front of the end of a routine, by the first one.
+-- Whether an instruction that commits lies before the end of a routine, by the pc of the first one.
 use Rattle.std.proofs.Common.{◌≡◌, ◌≤◌, ℕ, zero, suc, ◌+◌, Bool, true, false, List, [], ◌∷◌, take, Option, Some, None, refl, sym, ap, ◌∙◌, arith}
 use Rattle.std.specs.Prelude.{nat_lt, slice_get}
 use Rattle.std.specs.List.{list_any, position_from}
@@ -10,13 +10,13 @@ use Rattle.script_commands.specs.declared.command.Call.{Call}
 use Rattle.script_commands.specs.declared.command.Command.TheVariants as command
 use Rattle.script_commands.specs.MayCommit.{commits_at, first_commit, may_commit}
 
--- there is a place, and it is in front of the end
+-- there is an index, and it lies before the end
 abbrev pub is_before : ℕ → Option ℕ → Bool
 is_before end None = false
 is_before end (Some i) = nat_lt i end
 
 module _ {A : Type 0} (test : A → Bool) where
-  -- what is looked for from k on is not in front of k
+  -- a search that starts at k finds nothing before k
   not-below : (xs : List A) (end k : ℕ) → end ≤ k → is_before end (position_from test k xs) ≡ false
   not-below [] end k le = refl
   not-below (x ∷ xs) end k le = go (test x) refl (not-below xs end (k + 1) (omega (arith, le)))
@@ -37,7 +37,7 @@ module _ {A : Type 0} (test : A → Bool) where
       go true e others = let first : nat_lt k (k + suc n) ≡ true = grind arith in rw (e, first) refl
       go false e others = let end : k + suc n ≡ k + 1 + n = omega arith in rw (e, end) others
 
--- a call may commit where the first instruction that commits stands in front of the end of its routine
+-- a call may commit if the first instruction that commits lies before the end of the called routine
 pub call-may : (image : Parts) (call : Call) (routine : Routine) (start : ℕ) → slice_get image.routines call.routine ≡ Some routine
     → start ≡ start_of image.routines call.routine
     → may_commit image (command.Call call) ≡ is_before (start + routine.count) (first_commit image.points)

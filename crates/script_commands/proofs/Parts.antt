@@ -16,25 +16,25 @@ pub IfErr-any : {A E : Type 0} {P : Type 0} (result : Result A E) → P → IfEr
 IfErr-any (Ok x) p = tt
 IfErr-any (Err e) p = p
 
--- where no other fault comes than the writer's, what is said of others holds
+-- if the only fault is the writer's, any claim about other faults is true
 pub only-write : {A : Type 0} (P Q : Type 0) (result : Result A ScriptFault) → IfErr result (λ fault. (fault ≡ Write) × P)
     → IfErr result (λ fault. fault ≢ Write → Q)
 only-write P Q (Ok x) h = tt
 only-write P Q (Err e) h = λ other. absurd (other h.0)
 
--- the count of failures was kept, and then rose with the writer's fault
+-- the count of failures was unchanged, and then rose with the writer's fault
 pub rose-since : {A : Type 0} (a b c : ℕ) (result : Result A ScriptFault) → b ≡ a → IfErr result (λ fault. (fault ≡ Write) × Rose b c)
     → IfErr result (λ fault. fault ≡ Write → Rose a c)
 rose-since a b c (Ok x) same h = tt
 rose-since a b c (Err e) same h = λ is. subst (λ n. Rose n c) same h.1
 
--- it was kept, unless the writer failed
+-- the count is unchanged unless the writer failed
 pub kept-since : {A : Type 0} (P : Type 0) (a b c : ℕ) (result : Result A ScriptFault) → b ≡ a → IfOk result (λ _. c ≡ b)
     → IfErr result (λ fault. (fault ≡ Write) × P) → KeptUnless Write result a c
 kept-since P a b c (Ok x) same kept h = kept ∙ same
 kept-since P a b c (Err e) same kept h = λ other. absurd (other h.0)
 
--- a part of bytes that stand between others is a part of all of them
+-- a part of bytes between others is a part of all of them
 pub part-between : (a b c : Option (List ℕ)) (front bytes behind : List ℕ) → Appends a b front → AppendsPart b c bytes
     → AppendsPart a c (front ++ (bytes ++ behind))
 part-between a b c front bytes behind p (part, rest, e, some, q) =
@@ -52,14 +52,14 @@ IfErr-map (Err e) m p = m p
 pub part-first : (a b : Option (List ℕ)) (bytes behind : List ℕ) → AppendsPart a b bytes → AppendsPart a b (bytes ++ behind)
 part-first a b bytes behind q = part-between a a b [] bytes behind (Appends-nil a) q
 
--- and so is a part of the last ones behind all others
+-- a part of the last bytes, after all others, is a part of all of them
 pub part-last : (a b c d : Option (List ℕ)) (front bytes last : List ℕ) → Appends a b front → Appends b c bytes
     → AppendsPart c d last → AppendsPart a d (front ++ (bytes ++ last))
 part-last a b c d front bytes last p q r =
     subst (AppendsPart a d) (ap (λ bs. (front ++ bytes) ++ bs) (append-nil last) ∙ append_assoc front bytes last)
     (part-between a c d (front ++ bytes) last [] (Appends-trans a b c front bytes p q) r)
 
--- a word that is printed stands between those before it and those behind it
+-- a printed word comes between the words before it and those after it
 pub printed-at : (words : List ℕ) (k : ℕ) → k < length words
     → printed words ≡ printed (take k words) ++ (decimal (get_or words k 0) ++ (10 ∷ printed (drop (suc k) words)))
 printed-at words k lt =
@@ -77,7 +77,7 @@ part-digits a b c words k lt p q =
     subst (AppendsPart a c) (sym (printed-at words k lt))
     (part-between a b c (printed (take k words)) (decimal (get_or words k 0)) (10 ∷ printed (drop (suc k) words)) p q)
 
--- the writer failed at the line feed behind them
+-- the writer failed at the line feed after the digits
 pub part-line-feed : (a b c d : Option (List ℕ)) (words : List ℕ) (k : ℕ) → k < length words
     → Appends a b (printed (take k words)) → Appends b c (decimal (get_or words k 0)) → AppendsPart c d (10 ∷ []) → AppendsPart a d (printed words)
 part-line-feed a b c d words k lt p q r =

@@ -14,7 +14,7 @@ of-four P (a ∷ b ∷ c ∷ []) s long p = absurd (omega arith)
 of-four P (a ∷ b ∷ c ∷ d ∷ []) s long p = p
 of-four P (a ∷ b ∷ c ∷ d ∷ e ∷ others) s long p = absurd (omega arith)
 
--- one more handle in front of some, if there are any
+-- one more handle before the others, if there are any
 abbrev onto : ℕ → Option (List ℕ) → Option (List ℕ)
 onto h handles = option_map (λ hs. h ∷ hs) handles
 

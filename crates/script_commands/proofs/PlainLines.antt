@@ -61,7 +61,7 @@ plain-behind (w ∷ ws) (own, others) =
     let here : behind_arrow (w ∷ ws) ≡ behind_arrow ws = rw (plain-arrow w own) refl in
     here ∙ plain-behind ws others
 
--- a command may stand on a line without `->`
+-- a command may be on a line without `->`
 if_kept-plain : (ws : List (List ℕ)) (o : Option Command) → behind_arrow ws ≡ None → option_and_then (if_kept ws) o ≡ o
 if_kept-plain ws None e = refl
 if_kept-plain ws (Some (command.Call call)) e = rw e refl

@@ -18,7 +18,7 @@ one-less : (m : ℕ) → drop 1 (replicate {A = ℕ} m 0) ≡ replicate (m - 1) 
 one-less zero = refl
 one-less (suc m) = let e : suc m - 1 ≡ m = omega arith in rw e refl
 
--- what stands behind a register that is set is still 0
+-- the registers after one that is set are still 0
 pub zeros-behind : (registers : List ℕ) (i n : ℕ) → drop i registers ≡ replicate (8 - i) 0
     → drop (i + 1) (set registers i n) ≡ replicate (8 - (i + 1)) 0
 zeros-behind registers i n zeros =
@@ -70,7 +70,7 @@ before-block word rest e = rw e refl
 pub before-number : (word : List ℕ) (rest : List (List ℕ)) → names_block word ≡ false → before_blocks (word ∷ rest) ≡ word ∷ before_blocks rest
 before-number word rest e = rw e refl
 
--- one word more in front of them
+-- the same with one more word at the front
 taken-one : (k : ℕ) (w : List ℕ) (ws : List (List ℕ)) (b : Bool) → names_block w ≡ b
     → before_blocks (take k (before_blocks ws)) ≡ take k (before_blocks ws)
     → before_blocks (take (suc k) (before_blocks (w ∷ ws))) ≡ take (suc k) (before_blocks (w ∷ ws))
@@ -78,7 +78,7 @@ taken-one k w ws true e others = rw (before-block w ws e) refl
 taken-one k w ws false e others =
     rw (before-number w ws e) (before-number w (take k (before_blocks ws)) e ∙ ap (λ rest. w ∷ rest) others)
 
--- words in front of blocks have none behind them, however many are taken
+-- the words before the blocks are followed by no block, however many of them are taken
 pub before-taken : (k : ℕ) (ws : List (List ℕ)) → before_blocks (take k (before_blocks ws)) ≡ take k (before_blocks ws)
 before-taken zero ws = refl
 before-taken (suc k) [] = refl

@@ -1,11 +1,11 @@
--- Words that are written one after another, each behind a blank, are read as those words.
+-- Words that are written one after another, each after a blank, are read as these words.
 use Rattle.std.proofs.Common.{◌≡◌, ℕ, Bool, true, false, not, List, [], ◌∷◌, ◌++◌, filter, cond, refl, sym, ap, ◌∙◌, append-nil}
 use Rattle.std.specs.List.{AllByRecursion, onto_first, slice_split}
 use Rattle.std.proofs.lemmas.List.Elements.{All-from_recursion}
 use Rattle.std.proofs.lemmas.List.Splits.{slice_split_none, slice_split_at, slice_split-cons_yes}
 use Rattle.geos_text.specs.Words.{is_blank, is_empty, words}
 
--- words behind one blank each
+-- words with one blank before each
 abbrev pub spaced : List (List ℕ) → List ℕ
 spaced [] = []
 spaced (w ∷ ws) = 32 ∷ w ++ spaced ws
@@ -41,7 +41,7 @@ kept-words ((b ∷ part) ∷ parts) (own, others) = ((refl, own), kept-words par
 all-words : (line : List ℕ) → AllByRecursion IsWord (words line)
 all-words line = kept-words (slice_split is_blank line) (split-clean line)
 
--- a part that is not empty is kept
+-- the filter does not remove a part that is not empty
 part-kept : (part : List ℕ) (parts : List (List ℕ)) → is_empty part ≡ false
     → filter (λ w. not (is_empty w)) (part ∷ parts) ≡ part ∷ filter (λ w. not (is_empty w)) parts
 part-kept [] parts e = absurd cc
@@ -51,7 +51,7 @@ part-kept (b ∷ part) parts e = refl
 behind-blank : (line : List ℕ) → words (32 ∷ line) ≡ words line
 behind-blank line = ap (filter (λ w. not (is_empty w))) (slice_split-cons_yes is_blank 32 line refl)
 
--- a word, and the words behind it
+-- a word, and the words after it
 word-first : (word : List ℕ) (ws : List (List ℕ)) → IsWord word → words (spaced ws) ≡ ws → words (word ++ spaced ws) ≡ word ∷ ws
 word-first word [] (some, clean) rest =
     ap words (append-nil word)

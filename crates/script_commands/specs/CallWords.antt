@@ -1,9 +1,9 @@
--- One call that words name, and why it is none.
+-- The call that words name, and why words name none.
 use Rattle.std.specs.Prelude.{◌≡◌, ◌<◌, ◌≤◌, ℕ, Bool, true, false, not, List, length, take, None, option_map, option_and_then, unwrap_or}
 use Rattle.std.specs.List.{count_by}
 use Rattle.geos_image.specs.Parts.{Parts}
 use Rattle.geos_image.specs.Legal.{is_own}
-use Rattle.geos_entry.specs.Entry.{admits, entry_slots}
+use Rattle.geos_verify.specs.Entry.{admits, entry_slots}
 use Rattle.script_commands.specs.declared.call_fault.CallFault.{CallFault}
 use Rattle.script_commands.specs.declared.call_fault.CallFault.TheVariants.{BadBlocks, BadWord, Script}
 use Rattle.script_commands.specs.Lines.{before_blocks, call_named, registers_of, routine_named}
@@ -16,15 +16,15 @@ takes image name numbers = unwrap_or (option_and_then (λ r. option_map (admits 
 abbrev pub borrowed : Parts → List ℕ → ℕ
 borrowed image name = unwrap_or (option_map (λ r. count_by (λ state. not (is_own state)) (entry_slots image r)) (routine_named image name)) 0
 
--- the first wrong word of a call: 0 is the name, and any other one a number, counted from 1. No routine takes the numbers with it, and one
--- takes those before it
+-- the first wrong word of a call: 0 is the name, any other index a number, counted from 1.
+-- No routine accepts the numbers up to this word, and one accepts the numbers before it.
 pub record IsFirstWrong (image : Parts) (name : List ℕ) (numbers : List (List ℕ)) (at : ℕ) : Type 0 where
   pub there : at ≤ length numbers
   pub wrong : takes image name (take at numbers) ≡ false
   pub good : (k : ℕ) → k < at → takes image name (take k numbers) ≡ true
 
--- why words are no call: the first wrong one in front of the blocks; or there is none, and the routine borrows so many blocks, which are not
--- those behind the numbers
+-- why words are no call: the first wrong word before the blocks; or no such word is
+-- wrong, and the routine borrows n blocks, which do not match the blocks in the line
 abbrev pub IsWhyNoCall : Parts → List ℕ → List (List ℕ) → CallFault → Type 0
 IsWhyNoCall image name words (BadWord at) = IsFirstWrong image name (before_blocks words) at
 IsWhyNoCall image name words (BadBlocks n) = (takes image name (before_blocks words) ≡ true) × (call_named image name words ≡ None)

@@ -22,7 +22,7 @@ hex_digit n = if nat_lt n 10 then 48 + n else 87 + n
 abbrev pub hex_word : ℕ → List ℕ
 hex_word word = 48 ∷ 120 ∷ hex_digit (word / 4096) ∷ hex_digit (word / 256 % 16) ∷ hex_digit (word / 16 % 16) ∷ hex_digit (word % 16) ∷ []
 
--- the number below 0 that a word from 32,768 on is, behind a `-`; a smaller word as it is
+-- a word as a signed number: from 32,768 on it is negative, with a `-`
 abbrev pub signed_word : ℕ → List ℕ
 signed_word word = if nat_lt word 32768 then decimal word else 45 ∷ decimal (65536 - word)
 
@@ -50,7 +50,8 @@ abbrev pub on_a_line : List ℕ → List ℕ → List ℕ
 on_a_line front [] = []
 on_a_line front (byte ∷ bytes) = front ++ (byte ∷ bytes) ++ 10 ∷ []
 
--- what a command prints plainly, in a form: a line for each word, behind a label; or one line of all bytes of a text
+-- the plain output of a command in another form: one line for each
+-- word, with the label first; or one line with all bytes of a text
 abbrev pub in_form : Writing → List ℕ → List ℕ → List ℕ
 in_form Decimal label plain = lines_in Decimal label (10 ∷ []) (lines plain)
 in_form Hex label plain = lines_in Hex label (10 ∷ []) (lines plain)
@@ -68,8 +69,8 @@ commit_word Update = codes "update"
 commit_word Save = codes "save"
 commit_word Revert = codes "revert"
 
--- a command as its output is labelled: a call by its routine's name, its words, without the zeros at their end, and the blocks that
--- it lends
+-- the label of a command's output: a call's routine name, its words without the
+-- zeros at their end, and the blocks that it passes; or the word of a commit
 abbrev pub label_of : Parts → Command → List ℕ
 label_of image (command.Call call) =
     unwrap_or (option_map name_text (slice_get image.routines call.routine)) []
@@ -78,7 +79,7 @@ label_of image (command.Call call) =
     ++ codes ": "
 label_of image (command.Commit how) = commit_word how ++ codes ": "
 
--- the label that a form wants
+-- the label, if the form has one
 abbrev pub label_in : Form → Parts → Command → List ℕ
 label_in form image command = if form.label then label_of image command else []
 

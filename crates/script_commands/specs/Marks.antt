@@ -1,7 +1,7 @@
--- Marks of names: two names with two marks are not the same.
+-- Marks of names: names with different marks are different.
 use Rattle.std.specs.Prelude.{ℕ, ◌+◌, ◌*◌, ◌%◌, List, [], ◌∷◌}
 
--- the mark of bytes that stand behind others with this mark
+-- the mark of bytes that follow other bytes with this mark
 abbrev pub marked : ℕ → List ℕ → ℕ
 marked mark [] = mark
 marked mark (b ∷ bytes) = marked (((mark * 31) % 4294967296 + b) % 4294967296) bytes

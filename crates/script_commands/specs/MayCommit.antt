@@ -1,4 +1,4 @@
--- Which commands may commit, and when a flush is due before one.
+-- Which commands may commit, and when output must be flushed before a command.
 use Rattle.std.specs.Prelude.{ℕ, ◌+◌, Bool, true, false, ◌||◌, List, [], ◌∷◌, Option, take, position}
 use Rattle.std.specs.List.{list_any}
 use Rattle.geos_opcodes.specs.declared.opcode.Opcode.{Opcode}
@@ -24,8 +24,8 @@ commits_at point = commits point.instr.opcode
 abbrev pub first_commit : List Point → Option ℕ
 first_commit points = position commits_at points
 
--- a commit may, and so may a call where an instruction in front of the end of its routine commits: a
--- routine calls only routines before it
+-- a commit command may commit; a call may if any instruction up to the end
+-- of its routine commits, because a routine calls only routines before it
 abbrev pub may_commit : Parts → Command → Bool
 may_commit image (command.Commit how) = true
 may_commit image (command.Call call) = list_any commits_at (take (start_of image.routines (call.routine + 1)) image.points)
@@ -36,6 +36,6 @@ last_may_commit image [] = false
 last_may_commit image (here ∷ []) = may_commit image here.command
 last_may_commit image (here ∷ next ∷ others) = last_may_commit image (next ∷ others)
 
--- a flush is due before a command, behind those done: the last of them may have committed, or this one may
+-- output must be flushed before a command if the last command so far may have committed, or if this one may
 abbrev pub is_flush_due : Parts → List Numbered → Command → Bool
 is_flush_due image done next = last_may_commit image done || may_commit image next

@@ -14,11 +14,11 @@ WritesNone ws = All (λ word. writes_name word ≡ false) ws
 abbrev pub IsPlain : List ℕ → Type 0
 IsPlain script = All (λ line. WritesNone (said line)) (lines script)
 
--- such a line is the same command with names and without
+-- a line without names is the same command, whether names may be used or not
 abbrev pub PlainLinesSay : Type 0
 PlainLinesSay = (image : Parts) (names : Names) (line : List ℕ) → WritesNone (words line)
     → command_in image names (words line) ≡ command_of image (words line)
 
--- such a script has the same first bad line
+-- a script without names has the same first bad line, whether names may be used or not
 abbrev pub PlainScriptsAreBad : Type 0
 PlainScriptsAreBad = (image : Parts) (script : List ℕ) → IsPlain script → first_bad_in image [] (lines_said script) ≡ first_bad image (lines script)

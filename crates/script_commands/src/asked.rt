@@ -5,9 +5,8 @@ ghost use Rattle.geos_verify.specs.Lists.{all2};
 ghost use Rattle.script_commands.specs.Lines.{if_admitted, is_placed, may_ask};
 
 use crate::command::Call;
-use geos_entry::admits_words;
 use geos_image::SlotState;
-use geos_verify::Checked;
+use geos_verify::{Checked, admits_words};
 
 /// Whether a handle stands for the slot, or 0 if it is not borrowed.
 fn is_placed(state: SlotState, h: u16) -> bool

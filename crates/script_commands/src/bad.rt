@@ -35,7 +35,8 @@ pub fn bad_lines<'a>(
     Ok(bad)
 }
 
-/// Of lines that are not blank, those that are bad after all earlier ones, whatever numbers their names will have.
+/// The bad ones of these lines, none of which is blank: those that are
+/// bad after all earlier lines, whatever words their names will have.
 fn bad_of<'a>(
     alloc: Global,
     checked: &Checked,

@@ -11,9 +11,8 @@ use crate::call_fault::CallFault;
 use crate::command::Call;
 use crate::lines::{call_named, names_block, registers_of, routine_named};
 use crate::words::Words;
-use geos_entry::admits_words;
 use geos_image::SlotState;
-use geos_verify::Checked;
+use geos_verify::{Checked, admits_words};
 
 /// The number of words before the first that names a block.
 fn numbers_in(words: &[&str]) -> usize
@@ -48,7 +47,7 @@ fn takes(checked: &Checked, name: &str, numbers: &[&str]) -> bool
     }
 }
 
-/// How many slots hold what is borrowed.
+/// How many slots are borrowed.
 fn borrowed_in(states: &[SlotState; 4]) -> usize
     ensures { result ≡ count_by (λ state. not (is_own state)) states.now }
 {

@@ -2,8 +2,8 @@
 
 use vm_file::How;
 
-/// A call of a routine, on these words, and on the blocks of the VM file that it is lent: a handle for each slot that it
-/// borrows, and 0 for the others.
+/// A call of a routine, with these words, and with blocks of the VM
+/// file: a handle for each slot that it borrows, and 0 for the others.
 #[derive(Clone, Copy)]
 pub struct Call {
     pub routine: u16,

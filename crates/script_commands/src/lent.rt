@@ -1,4 +1,4 @@
-//! Which blocks a call lends.
+//! The blocks that a call passes to a routine.
 
 ghost use Rattle.std.specs.Prelude.{◌≡◌, ◌<◌, ◌≤◌, ◌+◌, ◌++◌, length};
 ghost use Rattle.script_commands.specs.Lent.{lent_handle, lent_handles};
@@ -6,7 +6,7 @@ ghost use Rattle.script_commands.specs.Lent.{lent_handle, lent_handles};
 use arrayvec::ArrayVec;
 use geos_image::SlotState;
 
-/// Adds the handle for a slot, where it is borrowed.
+/// Adds the handle for a slot, if it is borrowed.
 fn lend(lent: &mut ArrayVec<u16, 4>, state: SlotState, handle: u16)
     requires { length lent.old.items < 4 }
     ensures items { lent.new.items ≡ lent.old.items ++ lent_handle state handle }

@@ -2,20 +2,20 @@
 //!
 //! | Module | Has |
 //! |---|---|
-//! | command | `Command`: a commit or a call; `Numbered`: with the number of its line |
-//! | lines | `commands_of`: what the lines of a script say; `routine_named` |
-//! | words | words that are read one after another, of a line or of a command line |
-//! | asked | which calls the machine admits |
-//! | call_words | `call_on`: one call that words name; `why_no_call` |
-//! | call_fault | `CallFault`: why one call ends early |
-//! | kept | `Kept`: a name under which a word is stored |
-//! | names | names for words that calls output, and `command_in`: the command of a line that writes them |
-//! | named_lines | `lines_said`: the lines of a script that writes names; `first_bad`: the first bad one |
-//! | bad | `bad_lines`, `bad_lines_with_names`: all bad lines of a script |
-//! | lent | `lent_handles`: which blocks a call lends |
-//! | commits | `may_commit`: which commands may commit |
-//! | form | `Form`: how an output is written, and its text |
-//! | output | prints what commands output, and flushes the writer |
+//! | `command` | `Command`: a commit or a call; `Numbered`: with the number of its line |
+//! | `lines` | `commands_of`: what the lines of a script say; `routine_named` |
+//! | `words` | words that are read one after another, of a line or of a command line |
+//! | `asked` | which calls the machine admits |
+//! | `call_words` | `call_on`: one call that words name; `why_no_call` |
+//! | `call_fault` | `CallFault`: why one call ends early |
+//! | `kept` | `Kept`: a name under which a word is stored |
+//! | `names` | names for words that calls output, and `command_in`: the command of a line that writes them |
+//! | `named_lines` | `lines_said`: the lines of a script that writes names; `first_bad`: the first bad one |
+//! | `bad` | `bad_lines`, `bad_lines_with_names`: all bad lines of a script |
+//! | `lent` | `lent_handles`: which blocks a call lends |
+//! | `commits` | `may_commit`: which commands may commit |
+//! | `form` | `Form`: how an output is written, and its text |
+//! | `output` | prints what commands output, and flushes the writer |
 #![tactic(auto)]
 
 mod asked;

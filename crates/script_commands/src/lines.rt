@@ -1,4 +1,4 @@
-//! What the lines of a script say.
+//! The commands that the lines of a script encode.
 
 ghost use Rattle.std.specs.Prelude.{◌≡◌, ◌<◌, length, None, IfNone, IfOk, IfErr, IfSome, Some};
 ghost use Rattle.std.specs.Str.Lines.{lines};
@@ -30,7 +30,7 @@ pub fn routine_named(image: &Image, name: &[u8]) -> Option<u16>
     None
 }
 
-/// Whether the word names a block that is lent: it begins with `@`.
+/// Whether the word names a block that is passed: it begins with `@`.
 pub(crate) fn names_block(word: &[u8]) -> bool
     ensures { result ≡ names_block word.now }
 {
@@ -51,8 +51,8 @@ fn handle_of(word: &[u8]) -> Option<u16>
     }
 }
 
-/// The registers w0 to w7 that numbers say, up to the first word that names a block: at most eight of them. Missing ones
-/// are 0.
+/// The registers w0 to w7 from the numbers before the first word
+/// that names a block: at most eight of them. Missing ones are 0.
 pub(crate) fn registers_of(numbers: Words) -> Option<[u16; 8]>
     ensures { result ≡ registers_of (before_blocks (words_of numbers.entry)) }
 {

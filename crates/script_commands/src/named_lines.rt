@@ -10,17 +10,18 @@ use geos_text::{first_line, first_word, without_comment};
 use geos_verify::Checked;
 use std::alloc::{AllocError, Global};
 
-/// The most lines of a script that store a word, since a name is looked up by a linear search.
+/// The maximum number of lines of a script that store a word;
+/// there is a maximum because the search for a name is linear.
 pub const MOST_KEPT: usize = 1_024;
 
-/// A line that says something: its number, counted from 1, and its text without the comment.
+/// A line that is not empty: its number, counted from 1, and its text without the comment.
 #[derive(Clone, Copy)]
 pub struct Line<'a> {
     pub number: usize,
     pub text: &'a [u8],
 }
 
-/// The lines of a script that say something.
+/// The lines of a script that are not empty.
 pub fn lines_said<'a>(alloc: Global, script: &'a [u8]) -> Result<Vec<Line<'a>>, AllocError>
     ensures { IfOk result (λ said. map said_by said.items ≡ lines_said script.now) }
 {

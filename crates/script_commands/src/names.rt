@@ -67,7 +67,7 @@ fn is_arrow(word: &[u8]) -> bool
     word == b"->".as_slice()
 }
 
-/// The line up to `->`, with numbers in the place of names. `None` if a name has none.
+/// The line up to `->`, with numbers instead of names. `None` if a name has none.
 fn in_place(alloc: Global, names: &[Kept], line: &[u8]) -> Result<Option<Vec<u8>>, AllocError>
     ensures { IfOk result (λ text. MatchOption text
         (in_place (names_of names.now) (words line.now) ≡ None)
@@ -148,7 +148,7 @@ fn may_keep(line: &[u8], command: &Command) -> bool
     }
 }
 
-/// The command of a line without its comment, if it is admitted: that of the line with numbers in place of names.
+/// The command of a line without its comment, if it is admitted: the command of the line with numbers instead of names.
 pub fn command_in(
     alloc: Global,
     checked: &Checked,

@@ -8,9 +8,9 @@ use geos_text::first_word;
 /// Words that are read one after another.
 #[derive(Clone, Copy)]
 pub(crate) enum Words<'a> {
-    /// Those of a line.
+    /// The words of a line.
     Line(&'a [u8]),
-    /// Those of a command line, each apart.
+    /// The words of a command line, each separate.
     Apart(&'a [&'a str]),
 }
 

@@ -24,7 +24,7 @@ expected_in (w ∷ ws) = after_arrow ws
 abbrev pub words_printed : List ℕ → List (List ℕ)
 words_printed printed = flat_map words (lines printed)
 
--- a line says what it is to print
+-- a line states what it should print
 abbrev pub expects : List ℕ → Bool
 expects line = is_some (expected_in (said line))
 
@@ -36,6 +36,6 @@ expecting script = count_by expects (lines script)
 abbrev pub expecting_of : List TestLine → ℕ
 expecting_of lines = count_by (λ line. is_some line.expected) lines
 
--- a line printed what it says that it is to print
+-- a line printed what it states
 abbrev pub Passes : TestLine → List ℕ → Type 0
 Passes line printed = IfSome line.expected (λ expected. words expected.now ≡ words_printed printed) × (is_some line.expected ≡ true)

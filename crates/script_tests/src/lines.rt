@@ -7,14 +7,14 @@ ghost use Rattle.script_tests.specs.Expected.{after_arrow, expected_in, expectin
 use geos_text::{first_line, first_word, without_comment};
 use std::alloc::{AllocError, Global};
 
-/// A line of a test script that says something.
+/// A line of a test script that is not empty.
 #[derive(Clone, Copy)]
 pub(crate) struct TestLine<'a> {
     /// Its number, counted from 1.
     pub(crate) number: usize,
     /// Its command.
     pub(crate) command: &'a [u8],
-    /// What the command is to print, if the line says it.
+    /// What the command should print, if the line states it.
     pub(crate) expected: Option<&'a [u8]>,
 }
 
@@ -75,7 +75,7 @@ fn parted<'a>(number: usize, line: &'a [u8]) -> TestLine<'a>
     }
 }
 
-/// The lines of a test script that say something, in order.
+/// The lines of a test script that are not empty, in order.
 pub(crate) fn test_lines<'a>(
     alloc: Global,
     script: &'a [u8],
@@ -97,7 +97,7 @@ pub(crate) fn test_lines<'a>(
     Ok(found)
 }
 
-/// How many of the lines say what they are to print.
+/// How many of the lines state what they should print.
 pub(crate) fn count_expecting(lines: &[TestLine]) -> usize
     ensures { result ≡ expecting_of lines.now }
 {

@@ -3,8 +3,9 @@
 ghost use Rattle.std.specs.Prelude.{IsTrue};
 ghost use Rattle.script_tests.specs.Expected.{Passes};
 
-use crate::lines::{TestLine, count_expecting};
+use crate::lines::TestLine;
 use crate::printed::is_printed;
+use crate::suite::put_attribute;
 use geos_text::{first_line, is_blank};
 use sentence_text::Text;
 use std::alloc::Global;
@@ -16,6 +17,8 @@ pub(crate) struct Report<'p> {
     path: &'p str,
     /// A line for each line that failed.
     pub(crate) told: Text,
+    /// A suite of JUnit XML, with a case for each line with `=>`, and for each bad line.
+    pub(crate) suite: Text,
     /// Whether a line is bad.
     pub(crate) is_bad: bool,
 }
@@ -42,9 +45,13 @@ fn put_words(out: &mut Text, before: &str, text: &[u8]) {
 impl<'p> Report<'p> {
     /// No line has run.
     pub(crate) fn new(alloc: Global, path: &'p str) -> Report<'p> {
+        let mut suite = Text::new(alloc);
+        put_attribute(&mut suite, "<testsuite name=\"", path.as_bytes());
+        suite.put(">\n");
         Report {
             path,
             told: Text::new(alloc),
+            suite,
             is_bad: false,
         }
     }
@@ -56,7 +63,27 @@ impl<'p> Report<'p> {
         self.told.put_number(":", number as u64);
     }
 
-    /// Whether a line printed what it is to print; `false` if the line does not say what that is.
+    /// Ends a case, whose name begins so, and which has failed if there is a message.
+    fn end_case(&mut self, before: &str, name: &[u8], message: Option<&[u8]>) {
+        let path = self.path;
+        put_attribute(&mut self.suite, before, name);
+        put_attribute(&mut self.suite, " classname=\"", path.as_bytes());
+        if let Some(message) = message {
+            put_attribute(&mut self.suite, "><failure message=\"", message);
+            self.suite.put("/></testcase>\n");
+        } else {
+            self.suite.put("/>\n");
+        }
+    }
+
+    /// Writes the case of a line.
+    fn put_case(&mut self, line: &TestLine, message: Option<&[u8]>) {
+        self.suite
+            .put_number("<testcase name=\"", line.number as u64);
+        self.end_case(": ", line.command.trim_ascii(), message)
+    }
+
+    /// Whether a line printed what it should print; `false` if the line does not state this.
     pub(crate) fn note(&mut self, line: &TestLine, printed: &[u8]) -> bool
         ensures { IsTrue result → Passes line.now printed.now }
     {
@@ -64,12 +91,18 @@ impl<'p> Report<'p> {
             return false;
         };
         if is_printed(expected, printed) {
+            self.put_case(line, None);
             return true;
         }
+        let mut message = Text::new(*self.told.bytes.allocator());
+        put_words(&mut message, "expected ", expected);
+        put_words(&mut message, ", printed ", printed);
+        self.put_case(line, Some(message.bytes.as_slice()));
         self.put_place(line.number);
-        put_words(&mut self.told, ": expected ", expected);
-        put_words(&mut self.told, ", printed ", printed);
+        self.told.put(": ");
+        self.told.put_bytes(&message.bytes);
         self.told.put("\n");
+        self.told.failed = self.told.failed || message.failed;
         false
     }
 
@@ -78,21 +111,26 @@ impl<'p> Report<'p> {
         self.is_bad = true;
         self.put_place(line.number);
         self.told.put(": a name of this line has no word, or one above a bound\n");
-        let last = line.number;
-        let left = lines
-            .iter()
-            .filter(|line| line.number >= last && line.expected.is_some())
-            .count();
-        self.put_left(left);
+        if line.expected.is_none() {
+            self.put_case(line, Some(b"bad line".as_slice()));
+        }
+        self.leave(lines, line.number);
     }
 
-    /// Says how many lines were to print something, and did not run.
-    fn put_left(&mut self, left: usize) {
+    /// Reports how many lines from a number on should have printed something, and did not run.
+    fn leave(&mut self, lines: &[TestLine], first: usize) {
+        let mut left: u64 = 0;
+        for line in lines {
+            if line.number >= first && line.expected.is_some() {
+                left = left.saturating_add(1);
+                self.put_case(line, Some(b"did not run".as_slice()));
+            }
+        }
         if left > 0 {
             let path = self.path;
             self.told.put(path);
             self.told
-                .put_number(": lines with => that did not run: ", left as u64);
+                .put_number(": lines with => that did not run: ", left);
             self.told.put("\n");
         }
     }
@@ -110,7 +148,7 @@ impl<'p> Report<'p> {
             rest = behind;
             self.put_sentence(line);
         }
-        self.put_left(count_expecting(lines));
+        self.leave(lines, 0);
     }
 
     /// Writes a line `line N: ..` with the path of the script.
@@ -121,6 +159,7 @@ impl<'p> Report<'p> {
             [b'l', b'i', b'n', b'e', b' ', sentence @ ..] => {
                 self.told.put(":");
                 self.told.put_bytes(sentence);
+                self.end_case("<testcase name=\"", sentence, Some(b"bad line".as_slice()));
             }
             _ => {
                 self.told.put(": ");

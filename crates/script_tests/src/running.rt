@@ -7,7 +7,7 @@ ghost use Rattle.vm_blocks.specs.Listed.{NoneLocked};
 
 use crate::lines::{TestLine, count_expecting, plain_script, test_lines};
 use crate::report::Report;
-use geos_cli::{Counted, Form, MOST_BYTES, Progress, ScriptFault, Writing};
+use geos_cli::{Counted, Form, MOST_BYTES, Progress, ScriptFault, Unwatched, Writing};
 use geos_kernel::Kernel;
 use geos_scripts::{NameUse, tell_bad_lines};
 use geos_verify::{Checked, check};
@@ -26,6 +26,8 @@ const PLAIN: Form = Form {
 pub struct Tested {
     /// A line for each line that failed.
     pub told: Vec<u8>,
+    /// A suite of JUnit XML, with a case for each line with `=>`, and for each bad line.
+    pub suite: Vec<u8>,
     /// How many lines printed what they are to print.
     pub passed: usize,
     /// How many lines did not print what they are to print.
@@ -37,7 +39,7 @@ pub struct Tested {
 /// A script that runs: its progress, and the names of its lines so far.
 #[derive(Drop)]
 struct Run<'a> {
-    progress: Progress,
+    progress: Progress<Unwatched>,
     names: Vec<Kept<'a>>,
 }
 
@@ -50,9 +52,9 @@ fn carry_out<'a, D: Device + Drop>(
     kernel: &mut Kernel<D>,
 ) -> Result<Option<Vec<u8>>, ScriptFault>
     requires unlocked { NoneLocked kernel.old.core.blocks }
-    requires begun { IsBegunOn checked.now run.old.progress }
+    requires begun { IsBegunOn checked.now run.old.progress.first }
     ensures unlocked { NoneLocked kernel.new.core.blocks }
-    ensures begun { IsBegunOn checked.now run.new.progress }
+    ensures begun { IsBegunOn checked.now run.new.progress.first }
 {
     let Some(command) = command_in(alloc, checked, &run.names, line)? else {
         return Ok(None);
@@ -83,7 +85,7 @@ fn run_lines<D: Device + Drop>(
     ensures { IfOk result (λ passed. passed ≤ expecting_of lines.now) }
 {
     let mut run = Run {
-        progress: Progress::new(checked),
+        progress: Progress::new(checked, Unwatched),
         names: Vec::new(alloc),
     };
     let mut passed: usize = 0;
@@ -104,10 +106,17 @@ fn finished(report: Report, lines: &[TestLine], passed: usize) -> Result<Tested,
     requires { passed ≤ expecting_of lines.now }
     ensures { IfOk result (λ tested. tested.passed + tested.failed ≡ expecting_of lines.now) }
 {
-    let Report { told, is_bad, .. } = report;
+    let Report {
+        told,
+        mut suite,
+        is_bad,
+        ..
+    } = report;
+    suite.put("</testsuite>\n");
     let failed = count_expecting(lines) - passed;
     Ok(Tested {
         told: told.finish()?,
+        suite: suite.finish()?,
         passed,
         failed,
         is_bad,

@@ -10,7 +10,7 @@ use Rattle.geos_cli.proofs.in_form.carry_out_all_in_form.Goals as goal
 
 pub loop-numbered-init : goal.loop-numbered-init
 loop-numbered-init g c = (
-  none-ran g.D.Device.medium c.args.form c.args.checked.now c.args.mode c.args.kernel.now (g.W.Write.contents c.args.out.now.stream)
+  none-ran g.D.Device.medium c.args.options.form c.args.checked.now c.args.options.mode c.args.kernel.now (g.W.Write.contents c.args.out.now.stream)
       (λ f tied h. stops-first g.D.Device.medium c.args.kernel.now f tied (g.met.D.Device.at_once c.args.kernel.now.device)
       c.memory_is_legal.ensures.kept h _ (λ x opens. inl opens)),
   refl,
@@ -23,14 +23,14 @@ loop-numbered-init g c = (
 
 pub returns-clause-ran : goal.returns-clause-ran
 returns-clause-ran g c =
-    all-ran g.D.Device.medium c.args.form c.args.checked.now c.args.mode c.args.commands.now c.loop-numbered.numbered-index
+    all-ran g.D.Device.medium c.args.options.form c.args.checked.now c.args.options.mode c.args.commands.now c.loop-numbered.numbered-index
     c.args.kernel.now c.loop-numbered.kernel _ _
     (omega (arith, c.loop-numbered-test.false)) c.loop-numbered.invariant.0
 
 pub loop-numbered-preserved : goal.loop-numbered-preserved
 loop-numbered-preserved g c =
-    let shown = shown-of g.D.Device.medium c.args.form c.args.checked.now _ _ _ _ _ _ _ c.in_ok-done.ensures.ok in (
-      more-ran g.D.Device.medium c.args.form c.args.checked.now c.args.mode c.args.commands.now c.loop-numbered.numbered-index
+    let shown = shown-of g.D.Device.medium c.args.options.form c.args.checked.now _ _ _ _ _ _ _ c.in_ok-done.ensures.ok in (
+      more-ran g.D.Device.medium c.args.options.form c.args.checked.now c.args.options.mode c.args.commands.now c.loop-numbered.numbered-index
           c.args.kernel.now c.loop-numbered.kernel _ _ _ _ _ c.loop-numbered-test.true c.loop-numbered.invariant.2 _ c.in_default.ensures
           c.loop-numbered.invariant.0 shown,
       c.in_ok-done.ensures.kept ∙ c.loop-numbered.invariant.1,
@@ -44,7 +44,7 @@ loop-numbered-preserved g c =
 
 pub returns-in_err-done-clause-stopped : goal.returns-in_err-done-clause-stopped
 returns-in_err-done-clause-stopped g c =
-    IfErr-any _ (stopped-at g.D.Device.medium c.args.form c.args.checked.now c.args.mode c.args.commands.now
+    IfErr-any _ (stopped-at g.D.Device.medium c.args.options.form c.args.checked.now c.args.options.mode c.args.commands.now
     c.loop-numbered.numbered-index c.args.kernel.now c.loop-numbered.kernel _ _ _ _ _ c.loop-numbered-test.true
     c.loop-numbered.invariant.2 c.loop-numbered.invariant.0 c.in_err-done.ensures.stopped)
 
@@ -56,8 +56,8 @@ returns-in_err-done-clause-sees g c = (c.memory_is_legal.ensures.sees, c.carry_o
 
 pub returns-in-Some-clause-ran : goal.returns-in-Some-clause-ran
 returns-in-Some-clause-ran g c =
-    let shown = shown-of g.D.Device.medium c.args.form c.args.checked.now _ _ _ _ _ _ _ c.in_ok-done.ensures.ok in
-    refused-ran g.D.Device.medium c.args.form c.args.checked.now c.args.mode c.args.commands.now c.loop-numbered.numbered-index
+    let shown = shown-of g.D.Device.medium c.args.options.form c.args.checked.now _ _ _ _ _ _ _ c.in_ok-done.ensures.ok in
+    refused-ran g.D.Device.medium c.args.options.form c.args.checked.now c.args.options.mode c.args.commands.now c.loop-numbered.numbered-index
     c.args.kernel.now c.loop-numbered.kernel _ _ _ _ _ c.loop-numbered-test.true c.loop-numbered.invariant.2
     c.in-Some.refused c.in-Some.ensures.0 c.in-Some.ensures.1 _ c.in-Some.ensures.2 c.loop-numbered.invariant.0 shown
 

@@ -31,10 +31,10 @@ returns-clause-left g c =
     let from = g.W.Write.contents c.args.out.now.stream in
     let to = g.W.Write.contents c.carry_out_all_in_form.new.out.stream in
     let asked = asks _ _ _ _ _ c.in-Some.call c.in_ok-checked.ensures.image c.call_on.ensures c.in-Some.is in
-    let stopped : StoppedCallInForm g.D.Device.medium c.args.form image name words old new from to =
+    let stopped : StoppedCallInForm g.D.Device.medium c.args.options.form image name words old new from to =
     (c.in_ok-checked.checked, c.in-Some.call, asked, c.in-Err.ensures.stopped) in
     let F : ScriptFault → Type 0 = λ fault. Leaves fault ((new ≡ old) × Keeps from to)
-    (StoppedCallInForm g.D.Device.medium c.args.form image name words old new from to) in
+    (StoppedCallInForm g.D.Device.medium c.args.options.form image name words old new from to) in
     elim c.in-Err.ensures.fault [
       | inl write ↦ subst F (sym write) stopped
       | inr memory ↦ subst F (sym memory) (inr stopped)

@@ -23,7 +23,7 @@ returns-clause-ran g c =
     record { read = c.in_ok-checked.ensures.image.0; accepted = c.in_ok-checked.ensures.image.1; good = c.in_ok-commands.ensures.commands.0 } in
     let same = c.deref.ensures.value ∙ c.in_ok-commands.ensures.commands.1 in
     if_ok-map c.carry_out_all_in_form.result
-    (script-ran g.D.Device.medium c.args.form c.args.mode c.args.image.now c.args.script.now
+    (script-ran g.D.Device.medium c.args.options.form c.args.options.mode c.args.image.now c.args.script.now
     c.in_ok-checked.checked c.args.kernel.now c.carry_out_all_in_form.new.kernel
     (g.W.Write.contents c.args.out.now.stream) (g.W.Write.contents c.carry_out_all_in_form.new.out.stream)
     (omega (arith, c.if-script-gt-MOST_BYTES.false)) loads c.deref.result.now same)
@@ -35,7 +35,7 @@ returns-clause-left g c =
     record { read = c.in_ok-checked.ensures.image.0; accepted = c.in_ok-checked.ensures.image.1; good = c.in_ok-commands.ensures.commands.0 } in
     let same = c.deref.ensures.value ∙ c.in_ok-commands.ensures.commands.1 in
     fault-leaves c.carry_out_all_in_form.result _ _ _
-    (script-stopped g.D.Device.medium c.args.form c.args.mode c.args.image.now
+    (script-stopped g.D.Device.medium c.args.options.form c.args.options.mode c.args.image.now
     c.args.script.now c.in_ok-checked.checked c.args.kernel.now c.carry_out_all_in_form.new.kernel
     (g.W.Write.contents c.args.out.now.stream) (g.W.Write.contents c.carry_out_all_in_form.new.out.stream)
     (omega (arith, c.if-script-gt-MOST_BYTES.false)) loads c.deref.result.now same)

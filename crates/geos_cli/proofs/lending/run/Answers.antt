@@ -4,7 +4,7 @@ use Rattle.std.proofs.lemmas.List.Elements.{recursion_from_All}
 use Rattle.geos_terms.specs.Names.{vm}
 use Rattle.geos_verify.specs.Lists.{all2}
 use Rattle.geos_machine.specs.Lent.{has_block}
-use Rattle.geos_entry.specs.Entry.{admits, entry_slots}
+use Rattle.geos_verify.specs.Entry.{admits, entry_slots}
 use Rattle.script_commands.specs.Lines.{is_placed}
 use Rattle.script_commands.specs.Lent.{lent_handles}
 use Rattle.geos_cli.proofs.LentLocks.{lends-locked}

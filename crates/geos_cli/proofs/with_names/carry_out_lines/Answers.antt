@@ -11,9 +11,9 @@ use Rattle.geos_cli.proofs.with_names.carry_out_lines.Goals as goal
 
 pub loop-line-init : goal.loop-line-init
 loop-line-init g c = (
-  subst (λ ns. RanSoFar g.D.Device.medium c.args.form c.args.mode c.args.checked.now [] ns c.args.kernel.now c.args.kernel.now
+  subst (λ ns. RanSoFar g.D.Device.medium c.args.options.form c.args.options.mode c.args.checked.now [] ns c.args.kernel.now c.args.kernel.now
       (g.W.Write.contents c.args.out.now.stream) (g.W.Write.contents c.args.out.now.stream)) (sym (ap names_of c.new-names.ensures.items))
-      (none-ran g.D.Device.medium c.args.form c.args.mode c.args.checked.now c.args.kernel.now (g.W.Write.contents c.args.out.now.stream)
+      (none-ran g.D.Device.medium c.args.options.form c.args.options.mode c.args.checked.now c.args.kernel.now (g.W.Write.contents c.args.out.now.stream)
       (λ f tied h. stops-first g.D.Device.medium c.args.kernel.now f tied (g.met.D.Device.at_once c.args.kernel.now.device)
       c.memory_is_legal.ensures.kept h _ (λ x opens. inl opens))),
   refl,
@@ -26,7 +26,7 @@ loop-line-init g c = (
 
 pub returns-in_err-command-clause-stopped : goal.returns-in_err-command-clause-stopped
 returns-in_err-command-clause-stopped g c =
-    IfErr-any _ (not-begun g.D.Device.medium c.args.form c.args.mode c.args.checked.now c.args.lines.now c.loop-line.line-index
+    IfErr-any _ (not-begun g.D.Device.medium c.args.options.form c.args.options.mode c.args.checked.now c.args.lines.now c.loop-line.line-index
     (names_of c.loop-line.names.items) c.args.kernel.now c.loop-line.kernel (g.W.Write.contents c.args.out.now.stream)
     (g.W.Write.contents c.loop-line.out.stream) c.loop-line.invariant.0 any_line c.loop-line-test.true)
 
@@ -34,7 +34,7 @@ pub returns-in_default-clause-ran : goal.returns-in_default-clause-ran
 returns-in_default-clause-ran g c =
     let none = named-in c.args.checked.now c.loop-line.names.items c.deref.result.now
     (words (get_or c.args.lines.now c.loop-line.line-index any_line).text.now) _ _ c.deref.ensures.value c.in_ok-command.ensures c.in_default.is in
-    ended-badly g.D.Device.medium c.args.form c.args.mode c.args.checked.now c.args.lines.now c.loop-line.line-index
+    ended-badly g.D.Device.medium c.args.options.form c.args.options.mode c.args.checked.now c.args.lines.now c.loop-line.line-index
     (names_of c.loop-line.names.items) c.args.kernel.now c.loop-line.kernel (g.W.Write.contents c.args.out.now.stream)
     (g.W.Write.contents c.loop-line.out.stream) c.loop-line.invariant.0 any_line c.loop-line-test.true _ refl none
 
@@ -46,7 +46,7 @@ pub returns-in_err-done-clause-stopped : goal.returns-in_err-done-clause-stopped
 returns-in_err-done-clause-stopped g c =
     let named = named-in c.args.checked.now c.loop-line.names.items c.deref.result.now
     (words (get_or c.args.lines.now c.loop-line.line-index any_line).text.now) _ _ c.deref.ensures.value c.in_ok-command.ensures c.in-Some.is in
-    IfErr-any _ (stopped-at g.D.Device.medium c.args.form c.args.mode c.args.checked.now c.args.lines.now c.loop-line.line-index
+    IfErr-any _ (stopped-at g.D.Device.medium c.args.options.form c.args.options.mode c.args.checked.now c.args.lines.now c.loop-line.line-index
     (names_of c.loop-line.names.items) c.args.kernel.now c.loop-line.kernel (g.W.Write.contents c.args.out.now.stream)
     (g.W.Write.contents c.loop-line.out.stream) c.loop-line.invariant.0 any_line c.loop-line-test.true c.in-Some.command named
     c.carry_out_next.new.kernel (g.W.Write.contents c.carry_out_next.new.out.stream) c.loop-line.invariant.2 c.in_err-done.ensures.stopped)
@@ -56,7 +56,7 @@ returns-in-Some-ended_by-clause-ran g c =
     let ended = c.in-Some-ended_by.ensures in
     let named = named-in c.args.checked.now c.loop-line.names.items c.deref.result.now
     (words (get_or c.args.lines.now c.loop-line.line-index any_line).text.now) _ _ c.deref.ensures.value c.in_ok-command.ensures c.in-Some.is in
-    refused-ran g.D.Device.medium c.args.form c.args.mode c.args.checked.now c.args.lines.now c.loop-line.line-index
+    refused-ran g.D.Device.medium c.args.options.form c.args.options.mode c.args.checked.now c.args.lines.now c.loop-line.line-index
     (names_of c.loop-line.names.items) c.args.kernel.now c.loop-line.kernel (g.W.Write.contents c.args.out.now.stream)
     (g.W.Write.contents c.loop-line.out.stream) c.loop-line.invariant.0 any_line c.loop-line-test.true c.in-Some.command named
     c.carry_out_next.new.kernel (g.W.Write.contents c.carry_out_next.new.out.stream) c.loop-line.invariant.2 c.in-Some-ended_by.refused
@@ -66,7 +66,7 @@ pub returns-in_err-keep-clause-stopped : goal.returns-in_err-keep-clause-stopped
 returns-in_err-keep-clause-stopped g c =
     let named = named-in c.args.checked.now c.loop-line.names.items c.deref.result.now
     (words (get_or c.args.lines.now c.loop-line.line-index any_line).text.now) _ _ c.deref.ensures.value c.in_ok-command.ensures c.in-Some.is in
-    IfErr-any _ (stopped-behind g.D.Device.medium c.args.form c.args.mode c.args.checked.now c.args.lines.now
+    IfErr-any _ (stopped-behind g.D.Device.medium c.args.options.form c.args.options.mode c.args.checked.now c.args.lines.now
     c.loop-line.line-index (names_of c.loop-line.names.items) c.args.kernel.now c.loop-line.kernel
     (g.W.Write.contents c.args.out.now.stream) (g.W.Write.contents c.loop-line.out.stream) c.loop-line.invariant.0 any_line
     c.loop-line-test.true c.in-Some.command named c.carry_out_next.new.kernel (g.W.Write.contents c.carry_out_next.new.out.stream)
@@ -76,12 +76,12 @@ pub loop-line-preserved : goal.loop-line-preserved
 loop-line-preserved g c =
     let named = named-in c.args.checked.now c.loop-line.names.items c.deref.result.now
     (words (get_or c.args.lines.now c.loop-line.line-index any_line).text.now) _ _ c.deref.ensures.value c.in_ok-command.ensures c.in-Some.is in
-    let more = more-ran g.D.Device.medium c.args.form c.args.mode c.args.checked.now c.args.lines.now c.loop-line.line-index
+    let more = more-ran g.D.Device.medium c.args.options.form c.args.options.mode c.args.checked.now c.args.lines.now c.loop-line.line-index
     (names_of c.loop-line.names.items) c.args.kernel.now c.loop-line.kernel (g.W.Write.contents c.args.out.now.stream)
     (g.W.Write.contents c.loop-line.out.stream) c.loop-line.invariant.0 any_line c.loop-line-test.true c.in-Some.command named
     c.carry_out_next.new.kernel (g.W.Write.contents c.carry_out_next.new.out.stream) c.loop-line.invariant.2 _ _ c.in_default-ended_by.ensures
     c.in_ok-done.ensures.ok in (
-      subst (λ ns. RanSoFar g.D.Device.medium c.args.form c.args.mode c.args.checked.now
+      subst (λ ns. RanSoFar g.D.Device.medium c.args.options.form c.args.options.mode c.args.checked.now
           (map said_by (take (c.loop-line.line-index + 1) c.args.lines.now)) ns c.args.kernel.now c.carry_out_next.new.kernel
           (g.W.Write.contents c.args.out.now.stream) (g.W.Write.contents c.carry_out_next.new.out.stream)) (sym c.in_ok-keep.ensures) more,
       c.in_ok-done.ensures.kept ∙ c.loop-line.invariant.1,
@@ -94,7 +94,7 @@ loop-line-preserved g c =
     )
 
 pub returns-clause-ran : goal.returns-clause-ran
-returns-clause-ran g c = all-ran g.D.Device.medium c.args.form c.args.mode c.args.checked.now c.args.lines.now
+returns-clause-ran g c = all-ran g.D.Device.medium c.args.options.form c.args.options.mode c.args.checked.now c.args.lines.now
     c.loop-line.line-index (names_of c.loop-line.names.items) c.args.kernel.now c.loop-line.kernel
     (g.W.Write.contents c.args.out.now.stream) (g.W.Write.contents c.loop-line.out.stream) c.loop-line.invariant.0
     (omega (arith, c.loop-line-test.false))

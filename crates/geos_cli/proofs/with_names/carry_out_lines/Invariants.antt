@@ -11,7 +11,7 @@ use Rattle.geos_cli.proofs.with_names.carry_out_lines.Given as goal
 
 abbrev pub invariant-loop-line : goal.invariant-loop-line
 invariant-loop-line g l =
-    RanSoFar g.D.Device.medium l.fn.form l.fn.mode l.fn.checked (map said_by (take l.line-index l.fn.lines))
+    RanSoFar g.D.Device.medium l.fn.options.form l.fn.options.mode l.fn.checked (map said_by (take l.line-index l.fn.lines))
     (names_of l.names.items) l.fn.kernel l.kernel
     (g.W.Write.contents l.fn.out.stream) (g.W.Write.contents l.out.stream)
     × (l.out.failures ≡ l.fn.out.failures)
@@ -19,4 +19,4 @@ invariant-loop-line g l =
     × NoneLocked l.kernel.core.blocks
     × SeesDevice g.D.Device.medium l.kernel
     × Steadily g.D.Device.medium (vm_file_of l.fn.kernel) (vm_file_of l.kernel)
-    × IsBegunOn l.fn.checked l.progress
+    × IsBegunOn l.fn.checked l.progress.first

@@ -20,7 +20,7 @@ returns-clause-ran g c =
     } in
     let same = ap (map said_by) c.deref.ensures.value ∙ c.in_ok-lines.ensures.lines.0 in
     if_ok-map c.carry_out_lines.result
-    (script-ran g.D.Device.medium c.args.form c.args.mode c.args.image.now c.args.script.now
+    (script-ran g.D.Device.medium c.args.options.form c.args.options.mode c.args.image.now c.args.script.now
     c.in_ok-checked.checked c.args.kernel.now c.carry_out_lines.new.kernel
     (g.W.Write.contents c.args.out.now.stream) (g.W.Write.contents c.carry_out_lines.new.out.stream) loads
     (map said_by c.deref.result.now) same)
@@ -38,7 +38,7 @@ returns-clause-left g c =
     } in
     let same = ap (map said_by) c.deref.ensures.value ∙ c.in_ok-lines.ensures.lines.0 in
     fault-leaves c.carry_out_lines.result _ _ _
-    (script-stopped g.D.Device.medium c.args.form c.args.mode c.args.image.now
+    (script-stopped g.D.Device.medium c.args.options.form c.args.options.mode c.args.image.now
     c.args.script.now c.in_ok-checked.checked c.args.kernel.now c.carry_out_lines.new.kernel
     (g.W.Write.contents c.args.out.now.stream) (g.W.Write.contents c.carry_out_lines.new.out.stream) loads
     (map said_by c.deref.result.now) same)

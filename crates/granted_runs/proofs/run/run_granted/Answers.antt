@@ -1,4 +1,4 @@
-use Rattle.geos_entry.specs.Entry.{entry_slots}
+use Rattle.geos_verify.specs.Entry.{entry_slots}
 use Rattle.geos_machine.proofs.LentBlocks.{lends-lent}
 use Rattle.granted_runs.proofs.Within.{ran-within}
 use Rattle.granted_runs.proofs.run.run_granted.Goals as goal

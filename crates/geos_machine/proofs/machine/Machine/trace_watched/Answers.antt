@@ -8,7 +8,7 @@ use Rattle.geos_machine.specs.declared.trace.Left.{Left}
 use Rattle.geos_machine.specs.declared.trace.Left.TheVariants.{On, ToTarget, Calling, Returning}
 use Rattle.geos_machine.specs.declared.trace.Noted.{Noted}
 use Rattle.geos_machine.specs.Runs.{begin, Throughout}
-use Rattle.geos_entry.specs.Entry.{entry_slots}
+use Rattle.geos_verify.specs.Entry.{entry_slots}
 use Rattle.geos_machine.specs.Traces.{left_by, with_note}
 use Rattle.geos_machine.proofs.Honest.{alike-on, alike-ready, alike-works, stays-honest}
 use Rattle.geos_machine.proofs.LentBlocks.{lends-lent}
@@ -29,7 +29,7 @@ origin g c f = origin_of (g.D.Device.medium.honest c.args.kernel.now.device) c.a
 abbrev known : (g : given.Over) → At-run g → Origin
 known g c = origin g c c.memory_is_legal.ensures.file.0
 
--- where the next instruction stands
+-- the pc is that of an instruction
 place-of : (g : given.Over) (c : At-run g) → c.run.pc < length c.args.call.now.checked.now.points
 place-of g c = so_far-place (known g c) (c.run.invariant.1 _ c.memory_is_legal.ensures.file.1).so_far
 
