@@ -48,7 +48,7 @@ whole image around d bracket a next kd e begins formed code = record {
   code = subst (λ (k : PlacedKind). HasCodeFrom image around d bracket.here (wrapped k bracket.item.instr d a) next) (sym e) code;
 }
 
--- a body's code, with what is open around it spelled out
+-- the code of a body, with the entry of its own bracket given explicitly
 body_code : (image : Parts) (around : List Open) (d : ℕ) (opened : Open) (from : Place) (a : Stmt) (after : Place) → slice_get around d ≡ Some opened
     → HasCodeFrom image around (suc d) from a after
     → Implies (IsAt image from) (HasCode image a (IsAt image after) (through image (Some opened) d (exits_at image around d)))

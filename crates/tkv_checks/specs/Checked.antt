@@ -1,4 +1,4 @@
--- What a check of a routine's code says.
+-- What a successful check of a routine's code means.
 use Rattle.std.specs.Prelude.{◌≡◌, ℕ, Some, List, length, slice_get}
 use Rattle.std.specs.Global.{Vec}
 use Rattle.geos_image.specs.Parts.{Parts, start_of}

@@ -15,7 +15,7 @@ no_block = 65535
 abbrev pub ItemAt : List Placed → ℕ → (Placed → Type 0) → Type 0
 ItemAt items i is = (item : Placed) × (slice_get items i ≡ Some item) × is item
 
--- the items from i to before j begin with one of a kind, and end with its end; those between are a body
+-- the items from i to before j begin with an item of a kind, and end with its end; the items between them are a body
 abbrev pub Brackets : List Placed → (Placed → Type 0) → (ℕ → ℕ → Type 0) → ℕ → ℕ → Type 0
 Brackets items begins body i j = (m : ℕ) × ItemAt items i begins × body (suc i) m × ItemAt items m (λ item. item.kind ≡ kind.End) × (j ≡ suc m)
 

@@ -1,4 +1,4 @@
--- Places in code, and where control leaves to from within what is open.
+-- Places in code, and the exits of open blocks.
 use Rattle.std.specs.Prelude.{◌≡◌, ◌<◌, ◌==◌, ℕ, zero, suc, Option, Some, None, List, slice_get}
 use Rattle.geos_image.specs.Parts.{Parts}
 use Rattle.tkv_meaning.specs.Code.{Comes, chosen, Has, Returns, Nowhere}
@@ -7,7 +7,7 @@ use Rattle.tkv_checks.specs.declared.places.Place.TheVariants as place
 use Rattle.tkv_checks.specs.declared.places.Open.{Open}
 use Rattle.tkv_checks.specs.declared.places.Open.TheVariants.{Block, Turns, Closing}
 
--- control comes from a pc to the place, by jumps
+-- jumps lead from a pc to the place
 abbrev pub IsAt : Parts → Place → ℕ → Type 0
 IsAt image place.Nowhere p = Nowhere p
 IsAt image (place.At c) p = Comes image (λ q. q ≡ c) p
@@ -18,14 +18,14 @@ abbrev pub IsWithin : Place → Place → Type 0
 IsWithin place.Nowhere other = Unit {0}
 IsWithin one other = one ≡ other
 
--- where control leaves to the end of block l, through what is open at level d
+-- the pcs that lead to the end of block l, through the item that is open at level d
 abbrev pub through : Parts → Option Open → ℕ → (ℕ → ℕ → Type 0) → ℕ → ℕ → Type 0
 through image None d exits l = exits l
 through image (Some (Block end)) d exits l = chosen (l == d) (IsAt image end) (exits l)
 through image (Some Turns) d exits l = exits l
 through image (Some (Closing i)) d exits l = Has image i (exits l)
 
--- where control leaves to the end of block l, from within the first so many that are open
+-- the pcs that lead to the end of block l, from within the first d open items
 abbrev pub exits_at : Parts → List Open → ℕ → ℕ → ℕ → Type 0
 exits_at image around zero l = Nowhere
 exits_at image around (suc d) l = through image (slice_get around d) d (exits_at image around d) l

@@ -13,7 +13,7 @@ use Rattle.tkv_checks.specs.declared.steps.Bracket.{Bracket}
 use Rattle.tkv_checks.specs.Places.{IsAt, exits_at}
 use Rattle.tkv_checks.specs.Items.{IsItem, IsBegin, wrapped, Spells}
 
--- the instruction is at a place, and the next place comes after it; or control does not come there
+-- the instruction is at a place, and the next place follows it; or control does not reach the place
 abbrev pub IsPast : Parts → Instr → Place → Place → Type 0
 IsPast image i from next = ((from ≡ place.Nowhere) × (next ≡ place.Nowhere))
     ⊎ ((c : ℕ) × (from ≡ place.At c) × At image c i × IsAt image next (c + 1))

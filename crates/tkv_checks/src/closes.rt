@@ -47,7 +47,7 @@ fn comes_only_to(place: Place, one: Place, other: Place) -> bool
     }
 }
 
-/// The place after a loop that tests its counter after each turn.
+/// The place after a loop that tests its counter after each iteration.
 fn tested_after(image: &Image, bracket: &Bracket, after: Place) -> Option<Place>
     ensures { bracket.now.item.kind ≡ kind.Loop → bracket.now.item.instr ≡ turn bracket.now.item.instr.a 0
         → IfSome result (λ next. Closes image.now bracket.now opened.Turns after next) }
@@ -60,7 +60,7 @@ fn tested_after(image: &Image, bracket: &Bracket, after: Place) -> Option<Place>
     }
 }
 
-/// The place after a loop that tests its counter before each turn.
+/// The place after a loop that tests its counter before each iteration.
 fn tested_before(image: &Image, bracket: &Bracket, after: Place) -> Option<Place>
     ensures { bracket.now.item.kind ≡ kind.Count → bracket.now.item.instr ≡ turn bracket.now.item.instr.a 0
         → IfSome result (λ next. Closes image.now bracket.now opened.Turns after next) }

@@ -95,7 +95,7 @@ pub(crate) fn is_at(image: &Image, pc: u16, instr: &Instr) -> bool
     }
 }
 
-/// Where a jump at a pc leads, if there is one.
+/// The target of the jump at a pc, if there is a jump.
 fn jumped(image: &Image, pc: u16) -> Option<u16>
     ensures { IfSome result (λ to. At image.now pc (jump to)) }
 {
@@ -112,7 +112,7 @@ fn jumped(image: &Image, pc: u16) -> Option<u16>
     }
 }
 
-/// Where control comes from a pc, by jumps.
+/// The place that control reaches from a pc through jumps.
 pub(crate) fn settled(image: &Image, pc: u16) -> Place
     ensures { IsAt image.now result pc }
 {

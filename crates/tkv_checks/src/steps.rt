@@ -19,7 +19,7 @@ pub(crate) struct Bracket {
     pub inner: Place,
 }
 
-/// Where control comes after an instruction, and at its target.
+/// The places that control reaches after an instruction, and from its target.
 #[derive(Clone, Copy)]
 pub(crate) struct Outcomes {
     pub next: Place,
@@ -77,7 +77,7 @@ pub(crate) fn past(image: &Image, instr: &Instr, from: Place) -> Option<Place>
     }
 }
 
-/// The target of the instruction at a pc, if it is this one but for its target.
+/// The target of the instruction at a pc, if it is this one except for its target.
 pub(crate) fn target_at(image: &Image, pc: u16, instr: &Instr) -> Option<u16>
     ensures { IfSome result (λ to. At image.now pc (aimed instr.now to)) }
 {

@@ -161,7 +161,8 @@ fn place_in(places: &[u32], index: u16) -> u32 {
     }
 }
 
-/// The image of a program, with rows and numbers of steps. Where a routine without a bound is declared, it is the fault's place.
+/// The image of a program, with abstract states and step counts. If
+/// a routine has no bound, the fault's place is its declaration.
 fn found(alloc: Global, blank: &Image, heads: &[u32]) -> Result<Whole, Fault> {
     match find_image(alloc, blank) {
         Ok(whole) => Ok(whole),

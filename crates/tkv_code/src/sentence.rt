@@ -3,20 +3,32 @@
 use geos_opcodes::Opcode;
 use geos_text::put_numbered;
 use std::alloc::AllocError;
-use tkv_syntax::{Fault, Why, Word, name_at, place_of};
+use tkv_syntax::{Fault, LIBRARY, Name, Why, Word, name_at, place_of};
 
 /// The sentence of each fault, in the order of `Why`. `@` stands for the name at the fault's offset, `~` for the name at its other offset,
 /// `^` for the line of that, `#` for the number, `$` for the word, and `%` for what a call may have meant, or how it is written.
-static SENTENCES: [(Why, &str); 68] = [
+static SENTENCES: [(Why, &str); 73] = [
     (Why::Memory, "memory is refused"),
     (Why::TooLong, "a source has at most 1,048,576 bytes"),
     (
         Why::NoWord,
-        "no word of the language begins with this: it has no strings, & and shifts are its only operators on bits, and // starts a comment",
+        "no word of the language begins with this: & and shifts are its only operators on bits, and // starts a comment",
     ),
     (
         Why::BadNumber,
         "expected a number from 0 to 65535 in decimal, after 0x or after 0b, or a quoted character",
+    ),
+    (
+        Why::BadText,
+        "a string has 1 to 64 characters, all on one line; the escapes are \\n, \\t, \\\\, \\' and \\\"",
+    ),
+    (
+        Why::Text,
+        "a string can only be the value of an array of bytes, as in p.name = \"Ada\" for name: byte[8]",
+    ),
+    (
+        Why::LongText,
+        "the string is longer than @, which has # bytes: shorten the string, or declare @ with more bytes",
     ),
     (Why::LongName, "a name has at most 16 letters"),
     (Why::Expected, "expected $"),
@@ -42,7 +54,11 @@ static SENTENCES: [(Why, &str); 68] = [
     ),
     (
         Why::ExpectedFn,
-        "expected a declaration: fn, pub fn, const or struct; statements are between the { and } of a routine",
+        "expected a declaration: fn, pub fn, const, struct or use; statements are between the { and } of a routine",
+    ),
+    (
+        Why::ExpectedUse,
+        "expected std: use std; declares mul, div and others, and a line use \"file.tkv\"; adds a file",
     ),
     (
         Why::Inner,
@@ -54,7 +70,7 @@ static SENTENCES: [(Why, &str); 68] = [
     ),
     (
         Why::ExpectedField,
-        "expected a field, such as money: word, tag: byte or list: word[4]",
+        "expected a field, such as money: word, tag: byte[4] or rows: Row[8]; a struct before this one declares Row",
     ),
     (Why::Empty, "a statement is before each ;: remove this one"),
     (
@@ -86,6 +102,10 @@ static SENTENCES: [(Why, &str); 68] = [
     (
         Why::Twice,
         "@ is already a name, since line ^: choose another one",
+    ),
+    (
+        Why::InLibrary,
+        "@ is a routine of std, which this source uses: choose another name",
     ),
     (
         Why::Instruction,
@@ -256,7 +276,13 @@ static SENTENCES: [(Why, &str); 68] = [
 ];
 
 /// Sentences that a byte or a word at a fault's offset decides: the fault, the word that it speaks of, what is there, and the sentence.
-static CLOSER: [(Why, Word, &str, &str); 7] = [
+static CLOSER: [(Why, Word, &str, &str); 9] = [
+    (
+        Why::NoWordHere,
+        Word::Dot,
+        "",
+        "@ is a structure: name a field of it, as in p.rows[0].money",
+    ),
     (
         Why::Expected,
         Word::Stop,
@@ -273,19 +299,25 @@ static CLOSER: [(Why, Word, &str, &str); 7] = [
         Why::NoInstruction,
         Word::End,
         "*",
-        "one side of * must be a constant: add in a loop, as in for i in 0..y { p = p + x; }",
+        "one side of * must be a constant: with use std; write mul(x, y) for two words",
     ),
     (
         Why::NoInstruction,
         Word::End,
         "/",
-        "a divisor is a power of two: subtract in a loop, as in while x >= 10 max 6553 { x = x - 10; q = q + 1; }",
+        "a divisor is a power of two: with use std; write div(x, y)? for another one",
     ),
     (
         Why::NoInstruction,
         Word::End,
         "%",
-        "a divisor is a power of two: subtract in a loop, as in while x >= 10 max 6553 { x = x - 10; }",
+        "a divisor is a power of two: with use std; write rem(x, y)? for another one",
+    ),
+    (
+        Why::NoInstruction,
+        Word::End,
+        "&",
+        "one side of & must be a constant: with use std; write and(x, y) for two words",
     ),
     (
         Why::NoInstruction,
@@ -351,9 +383,17 @@ fn sentence_of(text: &[u8], fault: &Fault) -> &'static str {
     SENTENCES[fault.why as usize].1
 }
 
+/// The name at an offset of a source, which the library follows.
+fn name_in(text: &[u8], at: u32) -> Name {
+    match (at as usize).checked_sub(text.len()) {
+        Some(after) => name_at(LIBRARY.as_bytes(), after.min(65_535) as u32),
+        None => name_at(text, at),
+    }
+}
+
 /// Appends the name at an offset.
 fn put_name(out: &mut Vec<u8>, text: &[u8], at: u32) -> Result<(), AllocError> {
-    for byte in name_at(text, at) {
+    for byte in name_in(text, at) {
         if byte != 0 {
             out.push(byte)?;
         }
@@ -377,11 +417,21 @@ fn put_form(out: &mut Vec<u8>, text: &[u8], fault: &Fault) -> Result<(), AllocEr
     Ok(())
 }
 
+/// Whether the library declares a routine of this name.
+fn is_in_library(name: Name) -> bool {
+    LIBRARY
+        .split("fn ")
+        .any(|rest| name_at(rest.as_bytes(), 0) == name)
+}
+
 /// Appends what the call of a name may have meant that nothing has.
 fn put_meant(out: &mut Vec<u8>, text: &[u8], fault: &Fault) -> Result<(), AllocError> {
     let name = name_at(text, fault.at);
     if name[..4].eq_ignore_ascii_case(b"out\0") {
         return out.extend_from_slice(b"write out(x)? to print a word");
+    }
+    if is_in_library(name) {
+        return out.extend_from_slice(b"use std; declares it");
     }
     if fault.number == 0 {
         return out.extend_from_slice(b"fn declares a routine, and out(x)? prints a word");

@@ -119,7 +119,7 @@ uniform-stays s f (inl u) to = subst (Stays s) (sym (u to)) tt
 uniform-stays s f (inr (inl u)) to = subst (Stays s) (sym (u.2 to)) u.1
 uniform-stays s f (inr (inr u)) to = subst (Stays s) (sym (u.2 to)) u.1
 
--- a run that returns takes a step that leaves the stack, and goes on
+-- a run that returns takes a step that does not change the stack, and continues
 pub record Stepped (allowed : Choice → Type 0) (image : Parts) (depth : ℕ) (ending : Ending) (i : Instr) (s : State)
     (choices : List Choice) (bound : ℕ) : Type 0 where
   pub choice : Choice
@@ -239,7 +239,7 @@ return_done kept image depth m n last c cs s deep h = go (is_fault ret (uses_of 
         is_less true e = refl
         is_less false e = absurd (omega (arith, ltb-false (length st) depth e, d))
 
--- what the file keeps after a return is what it kept
+-- after a return the file has committed what it had committed before
 pub return_keeps : (image : Parts) (depth m n : ℕ) (last : State) (c : Choice) (cs : List Choice) (s : State) → depth ≡ length s.stack
     → ended image depth cs n (tried image c ret (begun c s)) ≡ Returned m last → (kept : Kept)
     → Contains (kept_by image depth cs (tried image c ret (begun c s))) kept → s.memory.file.kept ≡ kept
@@ -267,7 +267,7 @@ return_keeps image depth m n last c cs s deep h kept = go (is_fault ret (uses_of
 
 -- Drifts
 
--- steps of control leave what the file has kept
+-- steps of control do not change what the file has committed
 pub drifted-kept : (cs : List Choice) (x : Scope) → (drifted cs x).kept ≡ x.kept
 drifted-kept [] x = refl
 drifted-kept (c ∷ cs) x = drifted-kept cs (drifted (c ∷ []) x)

@@ -35,7 +35,7 @@ block locks = Some (record { locks = locks; heap = record { chunks = Some (1 ∷
 
 -- block 1 locked so often, in a region of 256 bytes
 abbrev memory : ℕ → Memory
-memory locks = record { blocks = block locks ∷ []; file = empty_file 0; region = 256 }
+memory locks = record { blocks = block locks ∷ []; file = empty_file 0; region = 256; handles = 1024 }
 
 -- these words w0 to w2, and the last refusal, with no block locked, in the scope of this number
 abbrev at_rest : ℕ → ℕ → ℕ → ℕ → ℕ → Scope
@@ -72,7 +72,8 @@ state x = record {
   output = x.output;
 }
 
--- a step of the model takes one scope to another under a choice, and leaves or not, whatever the target is; what the file keeps is told
+-- under a choice, a step of the model takes one scope to another, and leaves or
+-- not, whatever the target is; the new scope lists what the file has committed
 abbrev Steps : Choice → Instr → Bool → Scope → Scope → Type 0
 Steps choice i leaves x y =
     (y.kept ≡ y.memory.file.kept ∷ x.kept)
@@ -142,7 +143,8 @@ sizes-left = (
 
 -- An `else` that is taken
 
--- the same with `else { n = 9; }` behind the lock: without a refusal control leaves to the end of block 0, past the `else`
+-- the same with `else { n = 9; }` after the lock: without a
+-- refusal control leaves to the end of block 0, past the `else`
 abbrev sizes_or_nine : Stmt
 sizes_or_nine = Block 0 (Then (Block 1 (Then (Try (instr op.Mlock 0 0 0 0) 1)
     (Then (Closing (Try (instr op.Lsize 0 2 1 0) 1) (instr op.Munlock 0 0 0 0)) (Leave 0)))) (Act (instr op.Ldi 2 0 0 9)))
@@ -216,7 +218,7 @@ adds-thrice = inl (
 abbrev calls_twice : Stmt
 calls_twice = Block 0 (Then (Block 1 (Then (Act (instr op.Add 1 0 0 0)) (Leave 1))) (Try (instr op.Out 1 0 0 0) 0))
 
--- the double of 21 is put out
+-- the program outputs the double of 21
 twice-called : Does (Only willing) calls_twice (at_rest 1 21 0 0 0) On (record (at_rest 3 21 42 0 0) { output = 42 ∷ [] })
 twice-called = (
   On,
@@ -273,9 +275,9 @@ new = Sure (pair stored stored)
 abbrev unsure : Kept
 unsure = Unsure (pair nothing_stored nothing_stored) (pair stored stored)
 
--- a scope with this file, with the last refusal, when the file has kept these
+-- a scope with this file and this last refusal, in which the file has committed these contents
 abbrev with_file : VmFile → ℕ → List Kept → Scope
-with_file f why kept = record (at_rest 0 0 0 0 why) { memory = record { blocks = []; file = f; region = 256 }; kept = kept }
+with_file f why kept = record (at_rest 0 0 0 0 why) { memory = record { blocks = []; file = f; region = 256; handles = 1024 }; kept = kept }
 
 -- the block is marked, and not saved
 abbrev unsaved : ℕ → Kept → List Kept → Scope

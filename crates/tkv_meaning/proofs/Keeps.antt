@@ -33,13 +33,13 @@ use Rattle.geos_semantics.specs.Model.{Outcome, Fault, Next, Done, branch, answe
 use Rattle.tkv_meaning.specs.Statements.{is_plain, has_target, Continues}
 use Rattle.tkv_meaning.specs.Code.{aimed}
 
--- from a state, an outcome for each target: a fault, or control goes on, or to the target
+-- from a state, an outcome for each target: a fault, or control continues after the instruction, or at the target
 abbrev pub Uniform : State → (ℕ → Outcome) → Type 0
 Uniform s f = ((to : ℕ) → f to ≡ Fault)
     ⊎ (((t : State) × (t.stack ≡ s.stack) × ((to : ℕ) → f to ≡ Next (goto (s.pc + 1) t)))
     ⊎ ((t : State) × (t.stack ≡ s.stack) × ((to : ℕ) → f to ≡ Next (goto to t))))
 
--- control goes on
+-- control continues after the instruction
 goes_on : (s t : State) → t.stack ≡ s.stack → t.pc ≡ s.pc → Uniform s (λ to. Next (along t))
 goes_on s t same pc = inr (inl (t, same, λ to. ap (λ (p : ℕ). Next (goto (p + 1) t)) pc))
 

@@ -28,7 +28,7 @@ no_fault o t e f = absurd (apart (sym e ∙ f))
     apart : Fault ≡ Next t → ⊥
     apart p = cc
 
--- a state of a run, and what the file has kept so far
+-- a state of a run, and what the file has committed so far
 record Now : Type 0 where
   state : State
   kept : List Kept
@@ -53,7 +53,8 @@ module _ (allowed : Choice → Type 0) (image : Parts) (depth m : ℕ) (last : S
   abbrev Returning : List Choice → ℕ → Now → Type 0
   Returning choices n s = ComesTo allowed image depth (Returned m last) choices n s.state
 
-  -- a run from s comes to a state of a kind, with as many choices left or fewer; what the file kept on the way, it has kept
+  -- a run from s reaches a state of a kind, with at most as many
+  -- choices left; it has recorded what the file committed on the path
   record Reached (kind : Now → Type 0) (s : Now) (choices : List Choice) (bound : ℕ) : Type 0 where
     after : Now
     rest : List Choice
@@ -124,7 +125,7 @@ module _ (allowed : Choice → Type 0) (image : Parts) (depth m : ℕ) (last : S
     is = k;
   }
 
-  -- one step, after which the file has kept these
+  -- one step, after which the file has committed these contents
   stepped : (kind : Now → Type 0) (i : Instr) (s : Now) (choices : List Choice) (bound : ℕ)
       (st : Stepped allowed image depth (Returned m last) i s.state choices bound) (now : List Kept)
       → ((kept : Kept) → Contains s.kept kept → Contains now kept) → (has : Contains now st.after.memory.file.kept)
@@ -426,7 +427,7 @@ module _ (allowed : Choice → Type 0) (image : Parts) (depth m : ℕ) (last : S
     TurnsGo fuel = (choices : List Choice) → length choices ≤ fuel → (n : ℕ) (x : Scope) (s : Now) → Drifts allowed x (seen s) → s.state.pc ≡ test
         → IsDeep s → Returning choices n s → Reached (Turned k a next exits x) s choices (length choices)
 
-    -- each turn takes a choice
+    -- each iteration consumes a choice
     turns_go : (fuel : ℕ) → TurnsGo fuel
     turns_go zero choices few n x s drifts there deep h = absurd (let t = tests x s drifts there deep choices n h in let p = t.1 in omega (arith, p, few))
     turns_go (suc fuel) choices few n x s drifts there deep h =

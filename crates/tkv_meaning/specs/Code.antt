@@ -1,4 +1,4 @@
--- Where the code of a statement is, however it is laid out.
+-- The code of a statement, in any layout.
 use Rattle.std.specs.Prelude.{◌≡◌, ◌==◌, ℕ, zero, suc, ◌+◌, Bool, true, false, Some, slice_get}
 use Rattle.geos_image.specs.declared.instr.Instr.{Instr}
 use Rattle.geos_image.specs.declared.point.Point.{Point}
@@ -14,7 +14,7 @@ aimed i to = record i { target = to }
 abbrev pub jump : ℕ → Instr
 jump to = record { opcode = op.Jmp; a = 0; b = 0; c = 0; d = 0; imm = 0; target = to }
 
--- the test of a loop: back to a pc if the counter is above 0, which is then one lower
+-- the test of a loop: if the counter is above 0, it decrements the counter and jumps back to a pc
 abbrev pub turn : ℕ → ℕ → Instr
 turn k to = record { opcode = op.Loop; a = k; b = 0; c = 0; d = 0; imm = 0; target = to }
 
@@ -40,7 +40,7 @@ abbrev pub chosen : Bool → (ℕ → Type 0) → (ℕ → Type 0) → ℕ → T
 chosen true next other = next
 chosen false next other = other
 
--- where the ends of blocks are, with one more label
+-- the pcs of the ends of blocks, with one more label
 abbrev pub with_label : ℕ → (ℕ → Type 0) → (ℕ → ℕ → Type 0) → ℕ → ℕ → Type 0
 with_label l next exits j = chosen (j == l) next (exits j)
 
@@ -52,7 +52,7 @@ Has image i next = Comes image (λ q. At image q i × next (q + 1))
 abbrev pub HasTry : Parts → Instr → (ℕ → Type 0) → (ℕ → Type 0) → ℕ → Type 0
 HasTry image i next target = Comes image (λ q. (to : ℕ) × At image q (aimed i to) × next (q + 1) × target to)
 
--- the test of a loop is at a pc, and leads back to its body, after which the test comes again
+-- the test of a loop is at a pc, and leads back to its body, after which control reaches the test again
 abbrev pub HasTest : Parts → ℕ → ((ℕ → Type 0) → ℕ → Type 0) → (ℕ → Type 0) → ℕ → Type 0
 HasTest image k body next pc = (head test : ℕ) × Comes image (λ q. q ≡ test) pc × body (Comes image (λ q. q ≡ test)) head
     × At image test (turn k head) × next (test + 1)

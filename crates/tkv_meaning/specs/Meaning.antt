@@ -12,8 +12,8 @@ use Rattle.geos_semantics.specs.Model.{Next, tried, begun}
 use Rattle.tkv_meaning.specs.Statements.{Stmt, Skip, Act, Try, Leave, Then, Block, Loop, Count, Closing}
 use Rattle.tkv_meaning.specs.Code.{aimed}
 
--- what a statement reads and writes: memory, registers and output, and not where control is; and what the file has kept so far, the latest
--- first
+-- what a statement reads and writes: memory, registers and output, but
+-- not the pc; and what the file has committed so far, latest first
 pub record Scope : Type 0 where
   pub memory : Memory
   pub words : List ℕ
@@ -23,7 +23,7 @@ pub record Scope : Type 0 where
   pub output : List ℕ
   pub kept : List Kept
 
--- the scope of a state of the model, if the file has kept these so far
+-- the scope of a state of the model, if the file has committed these contents so far
 abbrev pub scope : List Kept → State → Scope
 scope kept s = record {
   memory = s.memory;
@@ -53,7 +53,7 @@ drifted (c ∷ cs) x = drifted cs (record x { memory = given_memory c.given x.me
 abbrev pub Drifts : (Choice → Type 0) → Scope → Scope → Type 0
 Drifts allowed x y = (choices : List Choice) × Each allowed choices × (y ≡ drifted choices x)
 
--- where control goes from an instruction: to its target, or on to the next one
+-- the pc after an instruction: its target, or the next pc
 abbrev pub pc_after : Bool → ℕ → ℕ → ℕ
 pc_after true next target = target
 pc_after false next target = next
@@ -85,17 +85,17 @@ Again allowed k x y = (m : Scope) × Drifts allowed x m × (0 < slice_index m.co
 abbrev pub Spent : (Choice → Type 0) → ℕ → Scope → Scope → Type 0
 Spent allowed k x y = (m : Scope) × Drifts allowed x m × (slice_index m.counters k ≡ 0) × Drifts allowed m y
 
--- from the test of a loop on, so many turns are made to their end; then the counter is 0, or one more turn takes an exit
+-- from the test of a loop on, n iterations finish; then the counter is 0, or one more iteration leaves by an exit
 abbrev pub Turns : (Choice → Type 0) → ℕ → Action → ℕ → Action
 Turns allowed k body zero x way y = (Spent allowed k x y × (way ≡ On)) ⊎ ((m : Scope) × (j : ℕ) × Again allowed k x m × body m (Out j) y × (way ≡ Out j))
 Turns allowed k body (suc n) x way y = (m : Scope) × (z : Scope) × Again allowed k x m × body m On z × Turns allowed k body n z way y
 
--- how a block ends whose body ends so
+-- how a block ends if its body ends in this way
 abbrev pub outside : ℕ → Way → Way
 outside l On = On
 outside l (Out j) = if j == l then On else Out j
 
--- under choices from outside that are allowed, the statement may take a scope to another, and end so
+-- under allowed choices from outside, the statement may take one scope to another and end in this way
 abbrev pub Does : (Choice → Type 0) → Stmt → Action
 Does allowed Skip x way y = Drifts allowed x y × (way ≡ On)
 Does allowed (Act i) x way y = (m : Scope) × Drifts allowed x m × Acts allowed i m false y × (way ≡ On)

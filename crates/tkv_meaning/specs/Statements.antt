@@ -7,9 +7,10 @@ use Rattle.geos_opcodes.specs.declared.opcode.Operand.{Operand}
 use Rattle.geos_opcodes.specs.declared.opcode.Operand.TheVariants.{Label}
 use Rattle.geos_opcodes.specs.Facts.{operands_of}
 
--- statements: nothing; an instruction after which control continues; an instruction that leaves to the end of a block if it is refused or
--- its test fails; a leave to the end of a block; a sequence; a block with a label; a loop that tests its counter after each turn, or before
--- each turn; and a statement with an instruction, an unlock, on each way out
+-- statements: nothing; an instruction after which control continues; an instruction that leaves to the end of a block
+-- if it is refused or its test fails; a leave to the end of a block; a sequence; a block with a label; a loop that
+-- tests its counter after each iteration, or before each iteration; and a statement with an instruction (an unlock) on
+-- each path out of it
 pub data Stmt : Type 0 where
   Skip : Stmt
   Act : Instr → Stmt
@@ -42,7 +43,7 @@ has_target opcode = is_label (operands_of opcode).target
 abbrev pub Continues : Opcode → Type 0
 Continues opcode = (is_plain opcode ≡ true) × (has_target opcode ≡ false)
 
--- the statement's instructions are those that it may have
+-- the statement has only instructions that it may have
 abbrev pub IsFormed : Stmt → Type 0
 IsFormed Skip = Unit {0}
 IsFormed (Act i) = Continues i.opcode

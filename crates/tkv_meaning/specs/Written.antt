@@ -22,14 +22,14 @@ kept_in image depth (choice ∷ choices) s = s.memory.file.kept ∷ elim (step i
 abbrev pub RoutineDoes : (Choice → Type 0) → Stmt → Scope → Scope → Type 0
 RoutineDoes allowed body x y = Does allowed (Then body Skip) x On y
 
--- a run from one state to another has done what the routine's statement says, under choices that are allowed; and what the file kept in a
--- state of the run, it has kept in a scope of the statement
+-- a run between two states did what the routine's statement says, under allowed choices; and everything
+-- that the file had committed in a state of the run, it had committed in a scope of the statement
 pub record HasDone (allowed : Choice → Type 0) (body : Stmt) (first : State) (passed : List Kept) (last : State) : Type 0 where
   pub kept : List Kept
   pub does : RoutineDoes allowed body (first_scope first) (scope kept last)
   pub keeps : (old : Kept) → Contains passed old → Contains kept old
 
--- a run of a routine that returns has done what the routine's statement says, under choices of the run
+-- if a run of a routine returns, it did what the routine's statement says, under the choices of the run
 abbrev pub RoutinesDoWhatIsWritten : Type 0
 RoutinesDoWhatIsWritten = (image : Parts) (body : Stmt) → IsFormed body
     → (choices : List Choice) (n m : ℕ) (s last : State) → IsRoutineCode image body s.pc

@@ -4,17 +4,34 @@ use crate::names::value;
 use crate::placed::{NOWHERE, with_number, with_registers};
 use crate::placer::{Operand, Placer, Sort};
 use geos_opcodes::Opcode;
-use tkv_syntax::{Item, Name, Why};
+use tkv_syntax::{Item, ItemKind, NUMBERS, Why};
 
-/// What is read or written through a pointer.
+/// What is read or written through a pointer: at first all that this leads to, or a structure within.
 #[derive(Clone, Copy)]
 struct Target {
+    pointer: Operand,
+    /// The word of the indexes before, or 0.
+    before: Operand,
     /// Its offset, in bytes.
     offset: u16,
-    /// 1 or 2.
+    /// 1 or 2, or the bytes of the structure.
     bytes: u16,
+    structure: u16,
     /// By how many bytes an index counts.
     scale: u16,
+    /// How many values the pointer or the structure is.
+    values: usize,
+}
+
+/// The greatest number that an operand can be, or 65,536 if that is not known.
+fn most(operand: &Operand) -> u32 {
+    let bounded = operand.is_constant() || operand.value > 0;
+    let number = if operand.is_constant() {
+        operand.value
+    } else {
+        operand.value.saturating_sub(1)
+    };
+    if bounded { u32::from(number) } else { NUMBERS }
 }
 
 impl Target {
@@ -25,16 +42,36 @@ impl Target {
             .saturating_add(u32::from(self.offset))
     }
 
-    /// Whether with an index it is within so many bytes.
-    fn is_within(&self, index: u16, bytes: u16) -> bool {
+    /// Whether with an index it is within the bytes of its pointer.
+    fn is_within(&self, index: u16) -> bool {
         let end = self.offset_at(index).saturating_add(u32::from(self.bytes));
-        end <= u32::from(bytes)
+        end <= u32::from(self.pointer.value)
     }
 
-    /// Whether it is within so many bytes for each number that the index can be.
-    fn is_always_within(&self, index: &Operand, bytes: u16) -> bool {
-        let bounded = matches!(index.sort, Sort::Word) && index.value > 0;
-        bounded && self.is_within(index.value.saturating_sub(1), bytes)
+    /// The greatest sum of the index and of those before, in bytes; 65,536 or more if none is known.
+    fn most_counted(&self, index: &Operand) -> u32 {
+        most(index)
+            .saturating_mul(u32::from(self.scale))
+            .saturating_add(most(&self.before))
+    }
+
+    /// Whether it is within the bytes of its pointer for each number that the index can be.
+    fn is_always_within(&self, index: &Operand) -> bool {
+        let end = self
+            .most_counted(index)
+            .saturating_add(u32::from(self.offset))
+            .saturating_add(u32::from(self.bytes));
+        end <= u32::from(self.pointer.value)
+    }
+
+    /// A constant index becomes a part of the offset. Returns the index that is left.
+    fn fold(&mut self, index: Operand) -> Operand {
+        let left = self.before;
+        self.offset = self.offset_at(index.value).min(65_535) as u16;
+        self.scale = 1;
+        self.before = index;
+        self.before.value = 0;
+        left
     }
 }
 
@@ -52,73 +89,86 @@ fn opcodes(store: bool, bytes: u16) -> (Opcode, Opcode, Opcode) {
 }
 
 impl Placer {
-    /// How many bytes `w` or `b` has.
-    fn plain_bytes(&mut self, name: Name, at: u32) -> u16 {
-        match (name[0], name[1]) {
-            (b'w', 0) => 2,
-            (b'b', 0) => 1,
-            _ => {
-                self.refuse(Why::NoField, at);
-                1
-            }
+    /// The pointer, or the structure within what it leads to, that so many values follow.
+    fn path(&mut self, after: usize, at: u32) -> Target {
+        let last = self.operand(after, at);
+        let part = matches!(last.sort, Sort::Part);
+        Target {
+            pointer: if part {
+                self.operand(after.saturating_add(2), at)
+            } else {
+                last
+            },
+            before: if part {
+                self.operand(after.saturating_add(1), at)
+            } else {
+                value(Sort::Constant, at, 0, 0)
+            },
+            offset: if part { last.value } else { 0 },
+            bytes: 2,
+            structure: last.structure,
+            scale: 1,
+            values: if part { 3 } else { 1 },
         }
     }
 
-    /// What a field, or `w` or `b` with an index, is of the bytes of a structure.
-    fn target(&mut self, item: &Item, structure: u16) -> Target {
+    /// Goes on to a field, or to `w` or `b` with an index.
+    fn reach(&mut self, item: &Item, target: &mut Target) {
         let name = self.name(item.at);
-        let (target, many) = match self.declared.field(structure, &name) {
+        let mut many = true;
+        match self.declared.field(target.structure, &name) {
             Some(field) => {
-                let target = Target {
-                    offset: field.offset,
-                    bytes: field.bytes,
-                    scale: field.bytes,
-                };
-                (target, field.many)
+                target.offset = target.offset.saturating_add(field.offset);
+                target.bytes = field.bytes;
+                target.scale = field.bytes;
+                target.structure = field.structure;
+                many = field.many;
             }
             None => {
-                let target = Target {
-                    offset: 0,
-                    bytes: self.plain_bytes(name, item.at),
-                    scale: 1,
-                };
-                (target, true)
+                let wide = name[0] == b'w';
+                if name[1] != 0 || !(wide || name[0] == b'b') {
+                    self.refuse(Why::NoField, item.at);
+                }
+                target.bytes = 1 + u16::from(wide);
+                target.structure = NOWHERE;
             }
-        };
+        }
         if many != (item.a != 0) {
             self.refuse(Why::FieldIndex, item.at);
         }
-        target
     }
 
-    /// The word that has the offset of an index.
+    /// The word that has the offset of an index. If it is computed, it takes the word of the indexes before, or a free one.
     fn offset_word(&mut self, target: &Target, index: Operand, at: u32) -> u8 {
         let mut register = self.word_of(index);
-        if target.scale == 2 {
-            let to = self.take_word(at);
+        let scales = target.scale == 2;
+        let sums = !target.before.is_constant();
+        if !scales && !sums && target.offset == 0 {
+            return register;
+        }
+        let to = if target.before.is_temporary() && !scales {
+            target.before.register
+        } else {
+            self.take_word(at)
+        };
+        if scales {
             self.act(with_number(Opcode::Muli, to, register, 2), at);
+            register = to;
+        }
+        if sums {
+            let before = self.word_of(target.before);
+            self.act(with_registers(Opcode::Add, to, register, before), at);
             register = to;
         }
         if target.offset > 0 {
             let more = self.word_of(value(Sort::Constant, at, 0, target.offset));
-            let to = self.take_word(at);
             self.act(with_registers(Opcode::Add, to, register, more), at);
-            register = to;
         }
-        register
-    }
-
-    /// The index of an access, which so many values follow: 0, if it has none.
-    fn index_of(&mut self, item: &Item, after: usize) -> Operand {
-        if item.a == 0 {
-            return value(Sort::Constant, item.at, 0, 0);
-        }
-        self.operand(after, item.at)
+        to
     }
 
     /// The word that is written. A constant is loaded into a word of its own if an index is computed too.
-    fn stored_word(&mut self, index: &Operand, at: u32) -> u8 {
-        let stored = self.operand(0, at);
+    fn stored_word(&mut self, stored: Operand, index: &Operand, at: u32) -> u8 {
         if !stored.is_constant() || index.is_constant() {
             return self.word_of(stored);
         }
@@ -127,29 +177,87 @@ impl Placer {
         register
     }
 
-    /// Reads or writes: the pointer, the index if there is one, and what is written are the last values.
+    /// A structure within what a pointer leads to: the pointer stays, with the sum of the indexes.
+    fn part(&mut self, item: &Item, target: &Target, index: Operand, count: usize) {
+        let at = item.at;
+        if item.b != 0 {
+            self.refuse(Why::NotRefusable, at);
+        }
+        let most = target.most_counted(&index).saturating_add(1);
+        let left = self.operands.len().saturating_sub(count);
+        self.operands.truncate(left.saturating_add(1));
+        let sums = !target.before.is_constant();
+        if sums {
+            self.push(target.before);
+        }
+        self.push(index);
+        let mut operation = *item;
+        if target.scale != 1 {
+            self.push(value(Sort::Constant, at, 0, target.scale));
+            operation.kind = ItemKind::Mul;
+            self.operation(&operation);
+        }
+        if sums {
+            operation.kind = ItemKind::Add;
+            self.operation(&operation);
+        }
+        if let Some(last) = self.operands.last_mut()
+            && last.is_temporary()
+        {
+            last.value = if most > 65_535 { 0 } else { most as u16 };
+        }
+        self.push(Operand {
+            structure: target.structure,
+            ..value(Sort::Part, at, 0, target.offset)
+        });
+    }
+
+    /// Reads or writes: the pointer or structure, the index if there is one, and what is written are the last values.
     pub(crate) fn access(&mut self, item: &Item, store: bool) {
         let at = item.at;
-        let count = 1 + usize::from(item.a != 0) + usize::from(store);
-        let pointer = self.operand(count - 1, at);
+        if store {
+            self.operand_count();
+        }
+        let after = usize::from(item.a != 0) + usize::from(store);
+        let mut target = self.path(after, at);
+        let count = target.values.saturating_add(after);
+        let pointer = target.pointer;
         if matches!(pointer.sort, Sort::Structure) && !store {
             return self.structure_constant(item, pointer);
         }
         if !pointer.is_pointer() {
             return self.refuse(Why::NoPointer, pointer.at);
         }
-        let target = self.target(item, pointer.structure);
-        let index = self.index_of(item, usize::from(store));
+        self.reach(item, &mut target);
+        let mut index = if item.a == 0 {
+            value(Sort::Constant, at, 0, 0)
+        } else {
+            self.operand(usize::from(store), at)
+        };
+        let nested = target.structure != NOWHERE;
+        if index.is_constant() && (nested || target.values > 1) {
+            if !target.is_within(index.value) {
+                return self.refuse_for(Why::PastEnd, at, at, pointer.value);
+            }
+            index = target.fold(index);
+        }
+        if nested {
+            if store {
+                self.refuse_part(at);
+            }
+            return self.part(item, &target, index, count);
+        }
         let words = self.words;
         let register = if store {
             let slot = self.leads[usize::from(self.pointer_of(pointer))];
             self.mark(slot, at);
-            self.stored_word(&index, at)
+            let stored = self.operand(0, at);
+            self.stored_word(stored, &index, at)
         } else {
             self.lowest(count, at)
         };
         let opcodes = opcodes(store, target.bytes);
-        self.accessed(item, &target, (pointer, index), opcodes, register);
+        self.accessed(item, &target, index, opcodes, register);
         self.words = words;
         self.take_values(count);
         if !store {
@@ -157,34 +265,83 @@ impl Placer {
         }
     }
 
+    /// Goes on to a field for a string, which is to be an array of bytes with room for that. Returns the index before it.
+    fn reach_string(&mut self, item: &Item, target: &mut Target) -> Operand {
+        let at = item.at;
+        let name = self.name(at);
+        match self.declared.field(target.structure, &name) {
+            Some(field) => {
+                let bytes = field.many && field.bytes == 1 && field.structure == NOWHERE;
+                if !bytes || item.a != 0 {
+                    self.refuse(Why::Text, at);
+                } else if item.c > u32::from(field.count) {
+                    self.refuse_for(Why::LongText, at, at, field.count);
+                }
+                target.offset = target.offset.saturating_add(field.offset);
+            }
+            None => self.refuse(Why::NoField, at),
+        }
+        if item.b != 0 {
+            self.refuse(Why::NotRefusable, at);
+        }
+        let index = target.before;
+        target.before = value(Sort::Constant, at, 0, 0);
+        index
+    }
+
+    /// Writes a string into a field of bytes. The last values are a pointer or structure, and numbers that have two bytes each.
+    pub(crate) fn write_string(&mut self, item: &Item) {
+        let at = item.at;
+        let pairs = item.c.div_ceil(2) as usize;
+        let mut target = self.path(pairs, at);
+        let slot = self.leads[usize::from(self.pointer_of(target.pointer))];
+        let index = self.reach_string(item, &mut target);
+        self.mark(slot, at);
+        // An index is to have a bound, so that all bytes are written.
+        let handler = self.handler;
+        self.handler = NOWHERE;
+        for k in 0..pairs {
+            let words = self.words;
+            if k + 1 == pairs && item.c % 2 == 1 {
+                target.bytes = 1;
+            }
+            let stored = self.operand(pairs - 1 - k, at);
+            let register = self.stored_word(stored, &index, at);
+            self.accessed(item, &target, index, opcodes(true, target.bytes), register);
+            self.words = words;
+            target.offset = target.offset.saturating_add(2);
+        }
+        self.handler = handler;
+        self.take_values(target.values.saturating_add(pairs));
+    }
+
     /// The access of a word through a pointer with an index, at an offset that is fixed, bounded or tested.
     fn accessed(
         &mut self,
         item: &Item,
         target: &Target,
-        through: (Operand, Operand),
+        index: Operand,
         opcodes: (Opcode, Opcode, Opcode),
         register: u8,
     ) {
         let at = item.at;
-        let (pointer, index) = through;
         let (fixed, bounded, tested) = opcodes;
-        let from = self.pointer_of(pointer);
+        let from = self.pointer_of(target.pointer);
         let may_be_refused = item.b != 0 || self.handler != NOWHERE;
         if index.is_constant() {
             let offset = target.offset_at(index.value);
-            if target.is_within(index.value, pointer.value) && offset <= 65_535 {
+            if target.is_within(index.value) && offset <= 65_535 {
                 return self.act(with_number(fixed, register, from, offset as u16), at);
             }
             if !may_be_refused || item.a == 0 {
-                return self.refuse_by(Why::PastEnd, at, pointer.value);
+                return self.refuse_for(Why::PastEnd, at, at, target.pointer.value);
             }
         }
         let word = self.offset_word(target, index, at);
         if may_be_refused {
             let way = self.refusal_way(item.b != 0, at);
             self.act_to(with_registers(tested, register, from, word), way, at);
-        } else if target.is_always_within(&index, pointer.value) {
+        } else if target.is_always_within(&index) {
             // The test costs no step and never fails.
             self.act_to(with_registers(tested, register, from, word), OUTERMOST, at);
         } else {

@@ -3,7 +3,7 @@
 use crate::calls::result_fields;
 use crate::placed::{NOWHERE, Placed, PlacedKind, bare};
 use crate::placer::{Bracket, Placer, added};
-use crate::state::{DEAD, State, WHY, bit};
+use crate::state::{DEAD, WHY, bit, fetched, marked, pairs_of};
 use geos_image::Instr;
 use geos_opcodes::Opcode;
 use tkv_syntax::Why;
@@ -18,11 +18,12 @@ impl Placer {
         if self.placed.len() >= MOST_PLACED {
             return self.refuse(Why::TooMany, at);
         }
+        self.here = self.said_at(at);
         let placed = Placed {
             kind,
             instr,
             to,
-            at,
+            at: self.here,
         };
         let kept = added(&mut self.placed, placed);
         self.keep(kept, at);
@@ -53,30 +54,26 @@ impl Placer {
         let Some(bracket) = self.brackets.pop() else {
             return self.refuse(Why::Unreached, at);
         };
-        self.state = self.released(self.state, bracket.slot).meet(bracket.joined);
+        self.state.facts &= !self.facts_on(bracket.slot);
+        self.state = self.state.meet(bracket.joined);
     }
 
-    /// What is known once a slot is unlocked. 255 is none.
-    fn released(&self, state: State, slot: u8) -> State {
-        state.unlocked(slot, self.pointers_into(slot))
-    }
-
-    /// The pointers that lead into a slot.
-    pub(crate) fn pointers_into(&self, slot: u8) -> u8 {
-        let mut into = 0;
+    /// The facts that end where a slot is unlocked. 255 is none.
+    fn facts_on(&self, slot: u8) -> u32 {
+        let mut facts = marked(slot) | pairs_of(slot);
         for k in 0..4 {
             if self.leads[k] == slot {
-                into |= bit(k as u8);
+                facts |= fetched(k as u8);
             }
         }
-        into
+        facts
     }
 
     /// Control may leave to the end of a block, and releases the locks of the blocks that it leaves.
     fn join(&mut self, level: u16) {
         let mut known = self.state;
         for k in usize::from(level) + 1..self.brackets.len() {
-            known = self.released(known, self.brackets[k].slot);
+            known.facts &= !self.facts_on(self.brackets[k].slot);
         }
         if let Some(bracket) = self.brackets.get_mut(usize::from(level)) {
             bracket.joined = bracket.joined.meet(known);
@@ -131,7 +128,7 @@ impl Placer {
     /// An instruction that may be refused, and leaves to the end of a block then.
     pub(crate) fn act_to(&mut self, instr: Instr, level: u16, at: u32) {
         let state = self.state;
-        self.state = state.with_word(WHY);
+        self.state.facts |= bit(WHY);
         self.test_to(instr, level, at);
         self.state = state;
     }

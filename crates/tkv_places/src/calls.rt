@@ -4,6 +4,7 @@ use crate::declarations::{is_call, is_lock, opcode_named};
 use crate::names::value;
 use crate::placed::bare;
 use crate::placer::{Held, Operand, Placer, Sort};
+use crate::state::fetched;
 use geos_image::Instr;
 use geos_opcodes::{
     FIELDS, Field, Opcode, Operand as Holds, PointerUse, SlotUse, Yields, operand_at,
@@ -33,23 +34,17 @@ pub(crate) fn result_fields(opcode: Opcode) -> (bool, bool) {
     }
 }
 
-/// Whether an instruction leaves something in the field, so that a call has no argument for it.
-fn is_result(opcode: Opcode, field: Field) -> bool {
-    let (in_a, in_b) = result_fields(opcode);
-    match field {
-        Field::A => in_a,
-        Field::B => in_b || matches!(opcode.uses().pointer, PointerUse::Sets),
-        _ => false,
-    }
-}
-
-/// Whether a call or a lock has an argument for the field. The word for the handle of a block that is made is one.
+/// Whether a call or a lock has an argument for the field: none if the instruction leaves something there, but the word for the handle of a
+/// block that is made is one.
 fn is_argument(opcode: Opcode, field: Field) -> bool {
+    let (in_a, in_b) = result_fields(opcode);
+    let fetches = matches!(opcode.uses().pointer, PointerUse::Sets);
     match field {
         Field::Target => false,
-        Field::A if is_lock(opcode) => false,
+        Field::A if in_a || is_lock(opcode) => false,
         Field::B if makes(opcode) => true,
-        _ => operand_at(opcode, field) != Holds::Unused && !is_result(opcode, field),
+        Field::B if in_b || fetches => false,
+        _ => operand_at(opcode, field) != Holds::Unused,
     }
 }
 
@@ -104,20 +99,14 @@ impl Placer {
         instr
     }
 
-    /// Refuses a call that writes the file if a block of it is locked.
-    fn refuse_locked(&mut self, at: u32) {
-        for k in 0..4 {
-            if !matches!(self.slots[k], Held::Free | Held::Mem) {
-                self.refuse(Why::Commits, at);
-            }
-        }
-    }
-
     /// Reports what a call does not allow at this place, and marks the block that the call changes.
     fn prepare(&mut self, opcode: Opcode, count: usize, at: u32) {
         let uses = opcode.uses();
-        if matches!(uses.slot, SlotUse::Commits) {
-            self.refuse_locked(at);
+        for k in 0..4 {
+            let of_file = !matches!(self.slots[k], Held::Free | Held::Mem);
+            if of_file && matches!(uses.slot, SlotUse::Commits) {
+                self.refuse(Why::Commits, at);
+            }
         }
         if count == 0 {
             return;
@@ -166,7 +155,7 @@ impl Placer {
             return self.refuse(Why::LockOnly, at);
         }
         if count != takes && !sizeless {
-            return self.refuse_by(Why::Arguments, at, takes.min(255) as u16);
+            return self.refuse_for(Why::Arguments, at, at, takes.min(255) as u16);
         }
         let words = self.words;
         self.prepare(opcode, count, at);
@@ -186,7 +175,7 @@ impl Placer {
         let mut made = instr;
         made.b = self.take_pointer(instr.a, at);
         self.called(made, asks, at);
-        self.state = self.state.with_pointer(made.b);
+        self.state.facts |= fetched(made.b);
         self.push(Operand {
             structure: bytes.structure_of(),
             ..value(Sort::Pointer, at, made.b, made.imm)

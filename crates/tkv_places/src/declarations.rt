@@ -1,5 +1,6 @@
 //! The declarations of a program: constants, structures and routines.
 
+use crate::placed::NOWHERE;
 use crate::placer::added;
 use geos_opcodes::{Opcode, SlotUse};
 use std::alloc::Global;
@@ -40,10 +41,13 @@ pub(crate) struct FieldPlace {
     pub owner: u16,
     /// Its offset, in bytes.
     pub offset: u16,
-    /// 1 or 2.
+    /// The bytes of an element: 1 or 2, or those of a structure.
     pub bytes: u16,
-    /// Whether it has an index.
+    /// The structure of an element, or `NOWHERE`.
+    pub structure: u16,
+    /// Whether it has an index, and how many elements.
     pub many: bool,
+    pub count: u16,
 }
 
 /// A program, and its declarations.
@@ -98,14 +102,6 @@ pub(crate) fn opcode_named(name: &Name) -> Option<Opcode> {
     }
 }
 
-/// Whether a call of this name moves chunks or items, if it is a call of the kernel; so does a call of a routine, as far as is known.
-fn may_move(name: &Name) -> bool {
-    match opcode_named(name) {
-        Some(opcode) => matches!(opcode.uses().slot, SlotUse::Moves | SlotUse::MovesGroup),
-        None => true,
-    }
-}
-
 impl Declared {
     /// The items of the program.
     pub fn items(&self) -> &[Item] {
@@ -120,6 +116,18 @@ impl Declared {
     /// The name at an offset of the source.
     pub(crate) fn name(&self, at: u32) -> Name {
         name_at(&self.source.text, at)
+    }
+
+    /// The fault of a name that is declared at two places. The library follows the source.
+    fn twice(&self, first: u32, second: u32) -> Fault {
+        if second < self.source.own {
+            Fault {
+                other: first,
+                ..Fault::new(Why::Twice, second)
+            }
+        } else {
+            Fault::new(Why::InLibrary, first)
+        }
     }
 
     /// The declaration of a name, if it has one.
@@ -207,22 +215,15 @@ impl Declaring {
         }
     }
 
-    /// Refuses a name that has a declaration, or that is one of the kernel's calls.
-    fn refuse_twice(&mut self, name: &Name, at: u32) {
-        if let Some(old) = self.declared.find(name) {
-            self.refuse_with(Fault {
-                other: old.at,
-                ..Fault::new(Why::Twice, at)
-            });
-        } else if opcode_named(name).is_some() {
-            self.refuse(Why::Instruction, at);
-        }
-    }
-
-    /// Declares a name.
+    /// Declares a name that has no declaration, and that is not one of the kernel's calls.
     fn name(&mut self, kind: Kind, item: usize, at: u32, value: u16) {
         let name = self.declared.name(at);
-        self.refuse_twice(&name, at);
+        if let Some(old) = self.declared.find(&name) {
+            let fault = self.declared.twice(old.at, at);
+            self.refuse_with(fault);
+        } else if opcode_named(&name).is_some() {
+            self.refuse(Why::Instruction, at);
+        }
         let index = self.declared.globals.len();
         if index >= MOST {
             return self.refuse(Why::TooMany, at);
@@ -267,12 +268,29 @@ impl Declaring {
         offset
     }
 
+    /// The bytes of an element of a field, and its structure or `NOWHERE`. The structure has another owner, so it is declared before.
+    fn element(&mut self, code: u32, owner: u16) -> (u16, u16) {
+        if code < NUMBERS {
+            return (code as u16, NOWHERE);
+        }
+        let at = code - NUMBERS;
+        match self.declared.find(&self.declared.name(at)) {
+            Some(global) if matches!(global.kind, Kind::Structure) && global.index != owner => {
+                (global.value, global.index)
+            }
+            _ => {
+                self.refuse(Why::ExpectedField, at);
+                (0, NOWHERE)
+            }
+        }
+    }
+
     /// Adds a field to the structure that is declared last.
     fn field(&mut self, item: &Item) {
         let name = self.declared.name(item.at);
         let owner = self.declared.globals.len().saturating_sub(1).min(MOST) as u16;
-        let count = u32::from(self.constant(item.c));
-        let bytes = item.a.min(2) as u16;
+        let count = self.constant(item.c);
+        let (bytes, structure) = self.element(item.a, owner);
         if self.declared.field(owner, &name).is_some() {
             self.refuse(Why::Twice, item.at);
         } else if self.declared.fields.len() >= MOST {
@@ -281,9 +299,11 @@ impl Declaring {
         let field = FieldPlace {
             name,
             owner,
-            offset: self.extend(count.saturating_mul(u32::from(bytes)), item.at),
+            offset: self.extend(u32::from(count).saturating_mul(u32::from(bytes)), item.at),
             bytes,
+            structure,
             many: item.b != 0,
+            count,
         };
         let kept = added(&mut self.declared.fields, field);
         self.keep(kept, item.at);
@@ -322,7 +342,10 @@ impl Declaring {
         if !self.within {
             return self.refuse(Why::NoConstant, at);
         }
-        let quiet = !may_move(&self.declared.name(at));
+        let quiet = match opcode_named(&self.declared.name(at)) {
+            Some(opcode) => !matches!(opcode.uses().slot, SlotUse::Moves | SlotUse::MovesGroup),
+            None => false,
+        };
         if let Some(global) = self.declared.globals.last_mut() {
             global.quiet = global.quiet && quiet;
         }

@@ -4,19 +4,10 @@ use crate::declarations::{Declaration, Kind};
 use crate::names::value;
 use crate::placed::NOWHERE;
 use crate::placer::{
-    Construct, Held, MOST_WORDS, Meaning, Operand, Placer, Running, Sort, Symbol, added,
+    Construct, MOST_WORDS, Meaning, Operand, Placer, Running, Sort, Symbol, added,
 };
+use crate::state::bit;
 use tkv_syntax::{Item, ItemKind, NUMBERS, Name, Why};
-
-/// Whether a block is of the kind that a parameter says: 0 for `mem`, 1 for `vm`, 2 for `group`.
-fn is_of_kind(held: Held, kind: u32) -> bool {
-    match held {
-        Held::Free => false,
-        Held::Mem => kind == 0,
-        Held::Vm | Held::Lent => kind == 1,
-        Held::Group => kind == 2,
-    }
-}
 
 impl Placer {
     /// Whether the routine of an item runs.
@@ -71,7 +62,7 @@ impl Placer {
                 self.stands_for(item, Meaning::Fixed, &operand);
             }
             Sort::Temporary if operand.register < MOST_WORDS => {
-                self.state = self.state.with_word(operand.register);
+                self.state.facts |= bit(operand.register);
                 self.stands_for(item, Meaning::Word, &operand);
             }
             _ => self.bind_copy(item, operand),
@@ -82,7 +73,7 @@ impl Placer {
     fn bind_copy(&mut self, item: &Item, operand: Operand) {
         let register = self.take_word(item.at);
         self.move_to(operand, register, operand.at);
-        self.state = self.state.with_word(register);
+        self.state.facts |= bit(register);
         self.stands_for(
             item,
             Meaning::Word,
@@ -93,7 +84,7 @@ impl Placer {
     /// Names a block parameter.
     fn bind_block(&mut self, item: &Item, operand: Operand) {
         let slot = self.slot_of(operand);
-        if !is_of_kind(self.held(slot), item.a) {
+        if self.held(slot).kind() != item.a {
             self.refuse(Why::Kinds, operand.at);
         }
         self.stands_for(item, Meaning::Block, &operand);
@@ -104,7 +95,7 @@ impl Placer {
         self.pointer_of(operand);
         let bytes = self.constant(item.a);
         if operand.value < bytes {
-            self.refuse_by(Why::PastEnd, operand.at, operand.value);
+            self.refuse_for(Why::PastEnd, operand.at, operand.at, operand.value);
         }
         let mut pointer = operand;
         pointer.structure = NOWHERE;
@@ -190,7 +181,7 @@ impl Placer {
             return self.refuse(Why::Public, at);
         }
         if item.a != head.b || count > self.operand_count() {
-            return self.refuse_by(Why::Arguments, at, head.b.min(255) as u16);
+            return self.refuse_for(Why::Arguments, at, at, head.b.min(255) as u16);
         }
         let gives = head.a & 8 != 0;
         let running = Running {
@@ -209,6 +200,7 @@ impl Placer {
         };
         let frame = self.frame(Construct::Inlined, at);
         self.bind_parameters(routine.item, count, at);
+        self.here = self.said_at(at);
         self.begin(frame);
         self.run(running, at);
         self.start(count);

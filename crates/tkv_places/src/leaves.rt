@@ -2,7 +2,7 @@
 
 use crate::placed::{NOWHERE, with_number};
 use crate::placer::{Construct, Placer, Running};
-use crate::state::WHY;
+use crate::state::{WHY, bit};
 use geos_opcodes::Opcode;
 use tkv_syntax::{Item, Why};
 
@@ -14,22 +14,6 @@ impl Placer {
             self.refuse(Why::Unreached, at);
         }
         running
-    }
-
-    /// Where the refusals of the innermost routine go.
-    fn routine_way(&mut self, at: u32) -> u16 {
-        match self.innermost_routine(at) {
-            Some(running) => {
-                if running.refusable {
-                    return running.fails;
-                }
-                if running.gives {
-                    self.refuse(Why::NoWayOut, at);
-                }
-                running.level
-            }
-            None => NOWHERE,
-        }
     }
 
     /// The outermost block of the innermost construct of the routine that takes refusals, or of its innermost loop. `NOWHERE` if there is none.
@@ -49,30 +33,29 @@ impl Placer {
     /// The target of a refusal with `?`, and of `fail`.
     pub(crate) fn way_out(&mut self, at: u32) -> u16 {
         let level = self.level_around(true);
-        if level == NOWHERE {
-            return self.routine_way(at);
+        if level != NOWHERE {
+            return level.saturating_add(1);
         }
-        level.saturating_add(1)
+        match self.innermost_routine(at) {
+            Some(running) if running.refusable => running.fails,
+            Some(running) => {
+                if running.gives {
+                    self.refuse(Why::NoWayOut, at);
+                }
+                running.level
+            }
+            None => NOWHERE,
+        }
     }
 
-    /// The block of the innermost loop of the routine.
-    fn loop_level(&mut self, at: u32) -> u16 {
+    /// Control leaves the innermost loop of the routine, or an iteration of it: to the end of the block so many levels below the outer
+    /// block around the loop.
+    pub(crate) fn leave_loop(&mut self, below: u16, at: u32) {
         let level = self.level_around(false);
         if level == NOWHERE {
             self.refuse(Why::NoLoop, at);
         }
-        level
-    }
-
-    pub(crate) fn break_out(&mut self, at: u32) {
-        let level = self.loop_level(at);
-        self.leave(level, at);
-    }
-
-    /// Control goes to the end of an iteration: to the end of the block within the loop, three levels below the outer block around it.
-    pub(crate) fn continue_loop(&mut self, at: u32) {
-        let level = self.loop_level(at);
-        self.leave(level.saturating_add(3), at);
+        self.leave(level.saturating_add(below), at);
     }
 
     /// `fail`, with a number if one is before it.
@@ -85,7 +68,7 @@ impl Placer {
                 return self.refuse(Why::FailZero, at);
             }
             self.act(with_number(Opcode::Ldi, WHY, 0, number), at);
-            self.state = self.state.with_word(WHY);
+            self.state.facts |= bit(WHY);
         }
         self.clear();
         let to = self.way_out(at);

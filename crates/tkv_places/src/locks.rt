@@ -3,8 +3,8 @@
 use crate::calls::{argument_count, makes};
 use crate::declarations::{is_lock, opcode_named};
 use crate::placed::{NOWHERE, PlacedKind, with_registers};
-use crate::placer::{Construct, Frame, Held, Meaning, Placer, Symbol};
-use crate::state::bit;
+use crate::placer::{Construct, Frame, Held, Meaning, Placer};
+use crate::state::{bit, fetched, marked, pair};
 use geos_opcodes::Opcode;
 use tkv_syntax::{Item, NONE, Why};
 
@@ -35,33 +35,14 @@ impl Placer {
             return;
         }
         for other in 0..4 {
-            let there = self.held(other);
-            let alike = there == held || (held == Held::Vm && there == Held::Lent);
+            let alike = self.held(other).kind() == held.kind();
             if alike && other != locking.slot {
-                self.state = self.state.with_pair(locking.slot, other);
+                self.state.facts |= pair(locking.slot, other);
             }
         }
-        if held == Held::Vm {
-            self.state = self.state.with_mark(locking.slot);
+        if matches!(held, Held::Vm) {
+            self.state.facts |= marked(locking.slot);
         }
-    }
-
-    /// Names the block, and the pointer if the lock gives one.
-    fn name_locked(&mut self, item: &Item, slot: u8, pointer: u8, bytes: (u16, u16)) {
-        self.declare_as(Meaning::Block, item.a, slot);
-        if item.b == NONE {
-            return;
-        }
-        self.named_pointers = self.pointers;
-        self.declare(Symbol {
-            name: self.name(item.b),
-            at: item.b,
-            meaning: Meaning::Pointer,
-            register: pointer,
-            value: bytes.0,
-            structure: bytes.1,
-            last: usize::MAX,
-        });
     }
 
     /// The way of a lock's refusal. If no `?` follows, its handler gets blocks: the number of the outermost.
@@ -87,7 +68,7 @@ impl Placer {
         }
         let takes = argument_count(opcode);
         if count != takes || self.operand_count() != count {
-            return self.refuse_by(Why::Arguments, at, takes.min(255) as u16);
+            return self.refuse_for(Why::Arguments, at, at, takes.min(255) as u16);
         }
         let slot = self.free_slot(at);
         let (level, way) = self.lock_way(item);
@@ -121,13 +102,15 @@ impl Placer {
         self.enter(PlacedKind::Closing, unlock, locking.slot, at);
         self.begin(frame);
         self.hold(locking.slot, held);
-        self.name_locked(item, locking.slot, instr.b, (instr.imm, structure));
-        self.note_new(locking, held);
+        self.declare(Meaning::Block, item.a, locking.slot, 0, NOWHERE);
         if fetches {
-            self.state = self.state.with_pointer(instr.b);
+            self.named_pointers = self.pointers;
+            self.declare(Meaning::Pointer, item.b, instr.b, instr.imm, structure);
+            self.state.facts |= fetched(instr.b);
         }
+        self.note_new(locking, held);
         if makes(locking.opcode) {
-            self.state = self.state.with_word(instr.b);
+            self.state.facts |= bit(instr.b);
         }
     }
 
@@ -138,7 +121,7 @@ impl Placer {
         for k in 0..4 {
             if self.leads[k] == frame.register {
                 self.leads[k] = 4;
-                self.state = self.state.without_pointers(bit(k as u8));
+                self.state.facts &= !fetched(k as u8);
             }
         }
         self.hold(frame.register, Held::Free);

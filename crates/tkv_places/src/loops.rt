@@ -2,10 +2,8 @@
 
 use crate::names::value;
 use crate::placed::{NOWHERE, PlacedKind, with_number, with_registers};
-use crate::placer::{
-    Construct, Frame, MOST_WORDS, Meaning, Operand, Placer, Sort, Symbol, Turns, added,
-};
-use crate::state::{WHY, below, bit};
+use crate::placer::{Construct, Frame, MOST_WORDS, Meaning, Operand, Placer, Sort, Turns, added};
+use crate::state::{BLOCKS, WHY, below, bit};
 use geos_opcodes::Opcode;
 use tkv_syntax::{Item, Why};
 
@@ -27,7 +25,7 @@ impl Counting {
         self.low.is_constant() && self.high.is_constant()
     }
 
-    /// The number after the last one that is counted; 0 if it is not known.
+    /// The number that the word is always below: the one after the last one that is counted; 0 if it is not known.
     fn limit(&self) -> u16 {
         let span = self.high.value.saturating_sub(self.low.value);
         if !self.is_known() || span == 0 || self.step == 0 {
@@ -42,22 +40,11 @@ impl Counting {
 }
 
 impl Placer {
-    fn take_counter(&mut self, at: u32) -> u8 {
-        let counter = self.counters;
-        if counter >= 4 {
-            self.refuse(Why::NoCounterLeft, at);
-            return 0;
-        }
-        self.counters = counter + 1;
-        counter
-    }
-
     /// The turns begin, with what holds in each of them.
     fn begin_turns(&mut self, frame: Frame, counted: u8, step: u16, counts_first: bool) {
         let at = frame.at;
         let words = (self.needed_words() | below(self.callers)) & !bit(WHY);
-        self.state.words &= words;
-        self.state.pointers &= below(self.named_pointers);
+        self.state.facts &= words | (below(self.named_pointers) << 8) | BLOCKS;
         let kind = if counts_first {
             PlacedKind::Count
         } else {
@@ -85,7 +72,12 @@ impl Placer {
     /// one, where `else` follows.
     fn loop_frame(&mut self, construct: Construct, at: u32) -> Frame {
         let mut frame = self.frame(construct, at);
-        frame.register = self.take_counter(at);
+        if self.counters >= 4 {
+            self.refuse(Why::NoCounterLeft, at);
+            return frame;
+        }
+        frame.register = self.counters;
+        self.counters = frame.register + 1;
         frame.level = self.block(at);
         self.block(at);
         frame
@@ -125,7 +117,7 @@ impl Placer {
             register
         };
         self.keep_word(register);
-        self.state = self.state.with_word(register);
+        self.state.facts |= bit(register);
         register
     }
 
@@ -137,15 +129,6 @@ impl Placer {
         }
         let more = (span - 1) / counting.step;
         self.act(with_number(Opcode::Setk, counting.counter, 0, more), at);
-    }
-
-    /// Turns whose number is a word, from 0 on.
-    fn turns_to(&mut self, counting: &Counting, at: u32) {
-        let register = self.word_of(counting.high);
-        self.act(
-            with_registers(Opcode::Setkw, counting.counter, register, 0),
-            at,
-        );
     }
 
     /// Turns from one word to another. If the first is above the second, control leaves to the end of the block `level`.
@@ -168,7 +151,8 @@ impl Placer {
         } else if counting.step != 1 {
             self.refuse(Why::NoConstant, at);
         } else if low.is_constant() && low.value == 0 {
-            self.turns_to(counting, at);
+            let high = self.word_of(counting.high);
+            self.act(with_registers(Opcode::Setkw, counting.counter, high, 0), at);
         } else {
             let from = self.counting_word(low, counting.high, at);
             self.turns_between(counting, from, level, at);
@@ -180,19 +164,6 @@ impl Placer {
         } else {
             UNCOUNTED
         }
-    }
-
-    /// Names the word that counts, which is always below the limit unless that is 0.
-    fn declare_counted(&mut self, at: u32, register: u8, limit: u16) {
-        self.declare(Symbol {
-            name: self.name(at),
-            at,
-            meaning: Meaning::Fixed,
-            register,
-            value: limit,
-            structure: NOWHERE,
-            last: usize::MAX,
-        });
     }
 
     /// `for`: the two values before it are where counting begins, and where it ends.
@@ -216,18 +187,10 @@ impl Placer {
         let counted = self.count_from(&counting, none, speaks, at);
         self.clear();
         if counted != UNCOUNTED {
-            self.declare_counted(at, counted, counting.limit());
+            self.declare(Meaning::Fixed, at, counted, counting.limit(), NOWHERE);
             self.keep_word(counted);
         }
         self.begin_turns(frame, counted, step, !counting.is_known());
-    }
-
-    /// Adds the step to the loop's word.
-    fn step_on(&mut self, turns: &Turns, at: u32) {
-        let step = self.word_of(value(Sort::Constant, at, 0, turns.step));
-        let by = with_registers(Opcode::Add, turns.counted, turns.counted, step);
-        self.act(by, at);
-        self.clear();
     }
 
     /// A turn is over: the next one follows, if one is left.
@@ -242,10 +205,13 @@ impl Placer {
         }
         self.end(at);
         if self.state.alive && turns.counted != UNCOUNTED {
-            self.step_on(&turns, at);
+            let step = self.word_of(value(Sort::Constant, at, 0, turns.step));
+            let by = with_registers(Opcode::Add, turns.counted, turns.counted, step);
+            self.act(by, at);
+            self.clear();
         }
-        if !turns.head.is_within(self.state) {
-            self.refuse_for(Why::NotFetched, at, frame.at);
+        if self.state.alive && turns.head.has(!self.state.facts) {
+            self.refuse_for(Why::NotFetched, at, frame.at, 0);
         }
         if turns.counts_first {
             self.state = self.state.meet(turns.head);

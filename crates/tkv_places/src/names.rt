@@ -5,7 +5,7 @@ ghost use Rattle.std.specs.Prelude.{◌<◌, IfSome};
 use crate::declarations::Kind;
 use crate::placed::NOWHERE;
 use crate::placer::{Held, MOST_WORDS, Meaning, Operand, Placer, Sort, Symbol, added};
-use crate::state::bit;
+use crate::state::{bit, fetched};
 use tkv_syntax::{Item, ItemKind, Name, Why};
 
 /// A value with these fields.
@@ -56,21 +56,21 @@ impl Need {
 
 impl Placer {
     /// What a name of the routine stands for.
-    pub(crate) fn symbol(&self, name: &Name) -> Option<Symbol> {
+    pub(crate) fn symbol(&self, name: &Name) -> Symbol {
         for k in self.base..self.symbols.len() {
             if self.symbols[k].name == *name {
-                return Some(self.symbols[k]);
+                return self.symbols[k];
             }
         }
-        None
-    }
-
-    /// Gives a name its meaning. The routine has no other name that is the same.
-    pub(crate) fn declare(&mut self, symbol: Symbol) {
-        if let Some(old) = self.symbol(&symbol.name) {
-            return self.refuse_for(Why::Twice, symbol.at, old.at);
+        Symbol {
+            name: *name,
+            at: 0,
+            meaning: Meaning::Nothing,
+            register: 0,
+            value: 0,
+            structure: NOWHERE,
+            last: 0,
         }
-        self.know(symbol);
     }
 
     /// Gives a name its meaning, which no other name of the routine has.
@@ -79,31 +79,35 @@ impl Placer {
         self.keep(kept, symbol.at);
     }
 
-    /// Names a register.
-    pub(crate) fn declare_as(&mut self, meaning: Meaning, at: u32, register: u8) {
-        self.declare(Symbol {
-            name: self.name(at),
+    /// Names a register. The routine has no other name that is the same. A word that may be set is free again after the last item that
+    /// needs it.
+    pub(crate) fn declare(
+        &mut self,
+        meaning: Meaning,
+        at: u32,
+        register: u8,
+        value: u16,
+        structure: u16,
+    ) {
+        let last = if matches!(meaning, Meaning::Word) {
+            self.last_need(at)
+        } else {
+            usize::MAX
+        };
+        let name = self.name(at);
+        let old = self.symbol(&name);
+        if !matches!(old.meaning, Meaning::Nothing) {
+            return self.refuse_for(Why::Twice, at, old.at, 0);
+        }
+        self.know(Symbol {
+            name,
             at,
             meaning,
             register,
-            value: 0,
-            structure: NOWHERE,
-            last: usize::MAX,
-        })
-    }
-
-    /// Names a word that is free again after the last item that needs it.
-    pub(crate) fn declare_word(&mut self, at: u32, register: u8) {
-        let last = self.last_need(at);
-        self.declare(Symbol {
-            name: self.name(at),
-            at,
-            meaning: Meaning::Word,
-            register,
-            value: 0,
-            structure: NOWHERE,
+            value,
+            structure,
             last,
-        })
+        });
     }
 
     /// The last item from here on that needs the name. If that is in a loop that begins from here on, the end of the loop's iteration.
@@ -137,7 +141,7 @@ impl Placer {
     }
 
     /// The words that names of the routine need still.
-    pub(crate) fn needed_words(&self) -> u8 {
+    pub(crate) fn needed_words(&self) -> u32 {
         let mut words = 0;
         for k in self.base..self.symbols.len() {
             let symbol = self.symbols[k];
@@ -220,7 +224,7 @@ impl Placer {
         }
         self.pointers = register + 1;
         self.leads[usize::from(register)] = slot;
-        self.state = self.state.without_pointers(bit(register));
+        self.state.facts &= !fetched(register);
         self.lost[usize::from(register)].lost = false;
         register
     }
@@ -261,22 +265,26 @@ impl Placer {
     /// The value of a name.
     pub(crate) fn named_value(&mut self, item: &Item) {
         let name = self.name(item.at);
-        if let Some(symbol) = self.symbol(&name) {
-            let sort = match symbol.meaning {
-                Meaning::Word | Meaning::Fixed => Sort::Word,
-                Meaning::Constant => Sort::Constant,
-                Meaning::Block => Sort::Block,
-                Meaning::Pointer => Sort::Pointer,
-            };
-            return self.push(Operand {
-                sort,
-                at: item.at,
-                register: symbol.register,
-                value: symbol.value,
-                structure: symbol.structure,
-            });
-        }
-        match self.declared.find(&name) {
+        let symbol = self.symbol(&name);
+        let sort = match symbol.meaning {
+            Meaning::Nothing => return self.global_value(item, &name),
+            Meaning::Word | Meaning::Fixed => Sort::Word,
+            Meaning::Constant => Sort::Constant,
+            Meaning::Block => Sort::Block,
+            Meaning::Pointer => Sort::Pointer,
+        };
+        self.push(Operand {
+            sort,
+            at: item.at,
+            register: symbol.register,
+            value: symbol.value,
+            structure: symbol.structure,
+        });
+    }
+
+    /// The value of a declared name.
+    fn global_value(&mut self, item: &Item, name: &Name) {
+        match self.declared.find(name) {
             Some(global) => {
                 let sort = match global.kind {
                     Kind::Constant => Sort::Constant,
@@ -295,14 +303,11 @@ impl Placer {
     /// The word for the handle of a block that is made. It is declared here if it is not known.
     pub(crate) fn handle_value(&mut self, item: &Item) {
         let name = self.name(item.at);
-        let register = match self.symbol(&name) {
-            Some(symbol) => {
-                if !matches!(symbol.meaning, Meaning::Word) {
-                    return self.refuse(Why::NotSettable, item.at);
-                }
-                symbol.register
-            }
-            None => self.declare_unset(item.at),
+        let symbol = self.symbol(&name);
+        let register = match symbol.meaning {
+            Meaning::Word => symbol.register,
+            Meaning::Nothing => self.declare_unset(item.at),
+            _ => return self.refuse(Why::NotSettable, item.at),
         };
         self.push(value(Sort::Handle, item.at, register, 0))
     }

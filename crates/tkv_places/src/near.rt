@@ -1,7 +1,7 @@
 //! Calls of a name that nothing has: the routine or instruction with nearly this name.
 
 use crate::declarations::{Declared, Kind, is_call, is_lock};
-use geos_opcodes::{OPCODES, Opcode};
+use geos_opcodes::OPCODES;
 use tkv_syntax::{Fault, Name, Why};
 
 /// A byte of a name in lower case, or 0 past its end.
@@ -35,43 +35,33 @@ fn common(one: &Name, other: &Name) -> usize {
     count
 }
 
-/// Whether two letters are swapped at a place, and the bytes after them are the same.
-fn are_swapped(one: &Name, other: &Name, at: usize) -> bool {
-    let next = at.saturating_add(1);
-    let after = at.saturating_add(2);
-    byte_at(one, at) == byte_at(other, next)
-        && byte_at(one, next) == byte_at(other, at)
-        && is_same_from(one, after, other, after)
-}
-
-/// Whether a name of at least three letters is another one but for one letter that is wrong, missing or too many, for two that are swapped, or
-/// for the case.
+/// Whether a name of at least three letters differs from another one only in one letter
+/// that is wrong, missing or too many, in two letters that are swapped, or in case.
 fn is_near(name: &Name, other: &Name) -> bool {
     let at = common(name, other);
     let next = at.saturating_add(1);
+    let after = at.saturating_add(2);
+    let swapped = byte_at(name, at) == byte_at(other, next)
+        && byte_at(name, next) == byte_at(other, at)
+        && is_same_from(name, after, other, after);
     byte_at(name, 2) != 0
-        && (is_same_from(name, next, other, next)
+        && (swapped
+            || is_same_from(name, next, other, next)
             || is_same_from(name, next, other, at)
-            || is_same_from(name, at, other, next)
-            || are_swapped(name, other, at))
-}
-
-/// The word of an opcode as a name.
-fn name_of(opcode: Opcode) -> Name {
-    let mut name = [0; 16];
-    for (k, byte) in opcode.word().as_bytes().iter().enumerate() {
-        if k < 16 {
-            name[k] = *byte;
-        }
-    }
-    name
+            || is_same_from(name, at, other, next))
 }
 
 /// The code of the instruction that has nearly this name; 0 if none has.
 fn near_instruction(name: &Name) -> u16 {
     for opcode in &OPCODES {
+        let mut word = [0; 16];
+        for k in 0..16 {
+            if let Some(byte) = opcode.word().as_bytes().get(k) {
+                word[k] = *byte;
+            }
+        }
         let called = is_call(*opcode) || is_lock(*opcode);
-        if called && is_near(name, &name_of(*opcode)) {
+        if called && is_near(name, &word) {
             return u16::from(opcode.code());
         }
     }

@@ -5,9 +5,9 @@ ghost use Rattle.std.specs.Prelude.{◌<◌};
 use crate::names::value;
 use crate::placed::{NOWHERE, with_number, with_registers};
 use crate::placer::{Held, MOST_WORDS, Operand, Placer, Sort};
-use crate::state::WHY;
+use crate::state::{WHY, bit, fetched, marked};
 use geos_opcodes::Opcode;
-use tkv_syntax::Why;
+use tkv_syntax::{Fault, Why, Word};
 
 impl Placer {
     /// The value that so many values follow.
@@ -22,9 +22,22 @@ impl Placer {
         value(Sort::Constant, at, 0, 0)
     }
 
-    /// How many values the statement has.
-    pub(crate) fn operand_count(&self) -> usize {
+    /// How many values the statement has, of which the last one is no structure within another one.
+    pub(crate) fn operand_count(&mut self) -> usize {
+        if let Some(last) = self.operands.last().copied()
+            && matches!(last.sort, Sort::Part)
+        {
+            self.refuse_part(last.at);
+        }
         self.operands.len().saturating_sub(self.floor)
+    }
+
+    /// Refuses a structure within another one as a value.
+    pub(crate) fn refuse_part(&mut self, at: u32) {
+        self.refuse_with(Fault {
+            word: Word::Dot,
+            ..Fault::new(Why::NoWordHere, at)
+        });
     }
 
     /// Takes so many values away, with the words that only they take.
@@ -49,7 +62,7 @@ impl Placer {
                 return false;
             }
         }
-        !self.state.has_word(WHY)
+        !self.state.has(bit(WHY))
     }
 
     /// Loads a constant as an operand: into w7 if that has nothing to keep, otherwise into a free word.
@@ -68,16 +81,20 @@ impl Placer {
             Sort::Constant => self.load(operand.value, operand.at),
             Sort::Temporary | Sort::Handle => operand.register,
             Sort::Word => {
-                if !self.state.has_word(operand.register) {
-                    self.refuse(Why::Unset, operand.at);
+                if !self.state.has(bit(operand.register)) {
+                    self.refuse_unknown(Why::Unset, operand.at);
                 }
                 operand.register
             }
             Sort::Why => {
-                if !self.state.has_word(WHY) {
-                    self.refuse(Why::WhyUnknown, operand.at);
+                if !self.state.has(bit(WHY)) {
+                    self.refuse_unknown(Why::WhyUnknown, operand.at);
                 }
                 WHY
+            }
+            Sort::Part => {
+                self.refuse_part(operand.at);
+                0
             }
             Sort::Block | Sort::Pointer | Sort::Structure => {
                 self.refuse(Why::NoWordHere, operand.at);
@@ -105,12 +122,12 @@ impl Placer {
             self.refuse(Why::NoPointer, operand.at);
             return 0;
         }
-        if !self.state.has_pointer(operand.register) {
+        if !self.state.has(fetched(operand.register)) {
             let loss = self.lost[usize::from(operand.register)];
             if loss.lost {
-                self.refuse_for(Why::Stale, operand.at, loss.by);
+                self.refuse_for(Why::Stale, operand.at, loss.by, 0);
             } else {
-                self.refuse(Why::NotFetched, operand.at);
+                self.refuse_unknown(Why::NotFetched, operand.at);
             }
         }
         operand.register
@@ -172,13 +189,13 @@ impl Placer {
             Held::Vm | Held::Lent => Opcode::Vdirty,
             Held::Group => Opcode::Idirty,
         };
-        if self.state.has_mark(slot) {
+        if self.state.has(marked(slot)) {
             return;
         }
         let taken = self.spare_taken;
         self.act(with_registers(opcode, slot, 0, 0), at);
         self.spare_taken = taken;
-        self.state = self.state.with_mark(slot);
+        self.state.facts |= marked(slot);
     }
 
     /// The target of a refusal: out of the routine if `?` follows, otherwise the handler of the statement.
@@ -187,7 +204,7 @@ impl Placer {
             return self.way_out(at);
         }
         if self.handler == NOWHERE {
-            self.refuse(Why::Unsaid, at);
+            self.refuse_unknown(Why::Unsaid, at);
         }
         self.handler
     }

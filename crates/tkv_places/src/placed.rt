@@ -4,7 +4,7 @@ use geos_image::Instr;
 use geos_opcodes::Opcode;
 
 /// What an item of a placed program is.
-#[derive(Clone, Copy, PartialEq, Eq)]
+#[derive(Clone, Copy)]
 pub enum PlacedKind {
     /// An instruction. If it is refused, or its test fails, control goes to the end of the block that it names.
     Do,

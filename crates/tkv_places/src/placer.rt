@@ -13,7 +13,7 @@ pub(crate) const MOST_WORDS: u8 = 7;
 pub(crate) const MOST_EFFORT: u32 = 8_388_608;
 
 /// What a slot holds.
-#[derive(Clone, Copy, PartialEq, Eq)]
+#[derive(Clone, Copy)]
 pub(crate) enum Held {
     Free,
     Mem,
@@ -23,9 +23,23 @@ pub(crate) enum Held {
     Group,
 }
 
+impl Held {
+    /// The kind of its block, as a parameter says it: 0 for `mem`, 1 for `vm`, 2 for `group`; 3 if it holds none.
+    pub(crate) fn kind(self) -> u32 {
+        match self {
+            Held::Mem => 0,
+            Held::Vm | Held::Lent => 1,
+            Held::Group => 2,
+            Held::Free => 3,
+        }
+    }
+}
+
 /// What a name stands for in a routine.
 #[derive(Clone, Copy)]
 pub(crate) enum Meaning {
+    /// The routine has no such name.
+    Nothing,
     /// A word that may be set.
     Word,
     /// A word that may not be set.
@@ -66,6 +80,9 @@ pub(crate) enum Sort {
     Block,
     Pointer,
     Structure,
+    /// A structure within what a pointer leads to: the pointer and an index, which is a word or 0, are the values before. The value is the
+    /// offset at the index 0.
+    Part,
 }
 
 /// A value that no item has taken yet.
@@ -191,7 +208,6 @@ pub(crate) struct Loss {
 /// A routine that is being placed. After the first fault what is placed does not matter, and placing ends with the item.
 #[derive(Drop)]
 pub(crate) struct Placer {
-    pub alloc: Global,
     pub declared: Declared,
     pub placed: Vec<Placed>,
     pub brackets: Vec<Bracket>,
@@ -203,6 +219,8 @@ pub(crate) struct Placer {
     pub state: State,
     /// The item that is next.
     pub next: usize,
+    /// Where the source says what was placed last. A routine of the library is at its call.
+    pub here: u32,
     /// How many words the callers have, how many have names, and how many are taken.
     pub callers: u8,
     pub named: u8,
@@ -231,7 +249,6 @@ pub(crate) struct Placer {
 impl Placer {
     pub(crate) fn new(alloc: Global, declared: Declared) -> Placer {
         Placer {
-            alloc,
             declared,
             placed: Vec::new(alloc),
             brackets: Vec::new(alloc),
@@ -242,12 +259,10 @@ impl Placer {
             operands: Vec::new(alloc),
             state: State {
                 alive: true,
-                words: 0,
-                pointers: 0,
-                marks: 0,
-                pairs: 0,
+                facts: 0,
             },
             next: 0,
+            here: 0,
             callers: 0,
             named: 0,
             words: 0,
@@ -269,16 +284,28 @@ impl Placer {
 }
 
 impl Placer {
+    /// Where the source says what is at an offset of the source or of the library.
+    pub(crate) fn said_at(&self, at: u32) -> u32 {
+        if at < self.declared.source.own {
+            at
+        } else {
+            self.here
+        }
+    }
+
     /// Keeps a fault, if it is the first one.
     pub(crate) fn refuse_with(&mut self, fault: Fault) {
         if self.fault.is_none() {
-            self.fault = Some(fault);
+            self.fault = Some(Fault {
+                at: self.said_at(fault.at),
+                ..fault
+            });
         }
     }
 
     /// Refuses the source for what is at a place.
     pub(crate) fn refuse(&mut self, why: Why, at: u32) {
-        self.refuse_with(Fault::new(why, at));
+        self.refuse_for(why, at, at, 0);
     }
 
     /// Refuses the source unless there was memory to keep what is at a place.
@@ -288,17 +315,16 @@ impl Placer {
         }
     }
 
-    /// Refuses the source for what is at a place, with another place to name.
-    pub(crate) fn refuse_for(&mut self, why: Why, at: u32, other: u32) {
-        self.refuse_with(Fault {
-            other,
-            ..Fault::new(why, at)
-        });
+    /// Refuses the source for what is not known at a place. If nothing leads there, no cure of that helps.
+    pub(crate) fn refuse_unknown(&mut self, why: Why, at: u32) {
+        let alive = self.state.alive;
+        self.refuse(if alive { why } else { Why::Unreached }, at);
     }
 
-    /// Refuses the source for what is at a place, with a number to name.
-    pub(crate) fn refuse_by(&mut self, why: Why, at: u32, number: u16) {
+    /// Refuses the source for what is at a place, with another place and a number to name.
+    pub(crate) fn refuse_for(&mut self, why: Why, at: u32, other: u32, number: u16) {
         self.refuse_with(Fault {
+            other,
             number,
             ..Fault::new(why, at)
         });

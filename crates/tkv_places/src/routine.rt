@@ -4,6 +4,7 @@ use crate::declarations::Declared;
 use crate::names::value;
 use crate::placed::{NOWHERE, Placed, bare};
 use crate::placer::{Construct, Held, Meaning, Placer, Running, Sort};
+use crate::state::bit;
 use geos_image::{Row, SlotState};
 use geos_opcodes::Opcode;
 use std::alloc::Global;
@@ -29,11 +30,11 @@ impl Placer {
             ItemKind::WordParam => {
                 let register = self.take_word(item.at);
                 self.keep_word(register);
-                self.state = self.state.with_word(register);
+                self.state.facts |= bit(register);
                 if item.b != NONE {
                     entry.bounds[usize::from(register)] = self.constant(item.b);
                 }
-                self.declare_word(item.at, register);
+                self.declare(Meaning::Word, item.at, register, 0, NOWHERE);
             }
             ItemKind::BlockParam if item.a == 1 => {
                 let slot = self.free_slot(item.at);
@@ -42,7 +43,7 @@ impl Placer {
                     marked: false,
                     borrowed: true,
                 };
-                self.declare_as(Meaning::Block, item.at, slot);
+                self.declare(Meaning::Block, item.at, slot, 0, NOWHERE);
             }
             _ => self.refuse(Why::Public, item.at),
         }
@@ -126,12 +127,13 @@ impl Placer {
             ItemKind::Begin => self.begin_statement(item),
             ItemKind::Let => self.bind(item),
             ItemKind::Assign => self.assign(item),
+            ItemKind::Store if item.c > 0 => self.write_string(item),
             ItemKind::Store => self.access(item, true),
             ItemKind::Done => self.done(item.at),
             ItemKind::Put => self.put_out(item),
             ItemKind::Dirty => self.make_dirty(item),
-            ItemKind::Break => self.break_out(item.at),
-            ItemKind::Continue => self.continue_loop(item.at),
+            ItemKind::Break => self.leave_loop(0, item.at),
+            ItemKind::Continue => self.leave_loop(3, item.at),
             ItemKind::Fail => self.fail(item),
             ItemKind::Return => self.give_back(item),
             ItemKind::Test => self.test(item),
@@ -195,16 +197,6 @@ impl Placer {
         }
         false
     }
-
-    /// The next item of the routine that begins at a place. Whether the outermost routine ends with it.
-    fn step(&mut self, at: u32) -> bool {
-        let Some(item) = self.declared.item(self.next) else {
-            self.refuse(Why::NoEnd, at);
-            return true;
-        };
-        self.next = self.next.saturating_add(1);
-        self.item(&item)
-    }
 }
 
 /// Places a public routine of a program, by the item that declares it.
@@ -223,7 +215,13 @@ pub fn place_routine(
         if ended || placer.fault.is_some() {
             break;
         }
-        ended = placer.step(head.at);
+        match placer.declared.item(placer.next) {
+            Some(item) => {
+                placer.next = placer.next.saturating_add(1);
+                ended = placer.item(&item);
+            }
+            None => placer.refuse(Why::NoEnd, head.at),
+        }
     }
     if !ended {
         placer.refuse(Why::TooMany, head.at);

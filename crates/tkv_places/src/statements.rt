@@ -1,8 +1,8 @@
 //! Statements that name, set and output values.
 
-use crate::placed::with_registers;
+use crate::placed::{NOWHERE, with_registers};
 use crate::placer::{MOST_WORDS, Meaning, Operand, Placer, Symbol};
-use crate::state::bit;
+use crate::state::{bit, fetched};
 use geos_opcodes::Opcode;
 use tkv_syntax::{Item, Why};
 
@@ -11,8 +11,8 @@ impl Placer {
     pub(crate) fn declare_unset(&mut self, at: u32) -> u8 {
         let register = self.take_named(at);
         self.keep_word(register);
-        self.state.words &= !bit(register);
-        self.declare_word(at, register);
+        self.state.facts &= !bit(register);
+        self.declare(Meaning::Word, at, register, 0, NOWHERE);
         register
     }
 
@@ -25,20 +25,18 @@ impl Placer {
             let slot = self.leads[usize::from(from)];
             let to = self.take_pointer(slot, at);
             self.act(with_registers(Opcode::Movp, to, from, 0), at);
-            self.state = self.state.with_pointer(to);
+            self.state.facts |= fetched(to);
             to
         };
         self.named_pointers = register + 1;
         self.pointers = self.pointers.max(register + 1);
-        self.declare(Symbol {
-            name: self.name(at),
+        self.declare(
+            Meaning::Pointer,
             at,
-            meaning: Meaning::Pointer,
             register,
-            value: operand.value,
-            structure: operand.structure,
-            last: usize::MAX,
-        });
+            operand.value,
+            operand.structure,
+        );
     }
 
     /// The word for a name whose value is in a word of its own: a lower one, if what computes the value can leave it there.
@@ -68,8 +66,8 @@ impl Placer {
             register
         };
         self.keep_word(register);
-        self.state = self.state.with_word(register);
-        self.declare_word(at, register);
+        self.state.facts |= bit(register);
+        self.declare(Meaning::Word, at, register, 0, NOWHERE);
     }
 
     /// `let`: names value `a` of `b`.
@@ -96,19 +94,15 @@ impl Placer {
         let same = self.leads[usize::from(from)] == self.leads[usize::from(to)]
             && operand.value >= symbol.value;
         if !same {
-            return self.refuse_for(Why::Kinds, at, symbol.at);
+            return self.refuse_for(Why::Kinds, at, symbol.at, 0);
         }
-        if from < self.named_pointers || !self.refetch(from, to) {
+        // The last placed item sets the other pointer, if it fetches this one.
+        let fetches = matches!(self.last_opcode(), Opcode::Deref | Opcode::Caelt);
+        if from < self.named_pointers || !self.redirect((false, fetches), from, to) {
             self.act(with_registers(Opcode::Movp, to, from, 0), at);
         }
-        self.state = self.state.with_pointer(to);
+        self.state.facts |= fetched(to);
         self.lost[usize::from(to)].lost = false;
-    }
-
-    /// The last placed item sets another pointer, if it fetches this one.
-    fn refetch(&mut self, from: u8, to: u8) -> bool {
-        let fetches = matches!(self.last_opcode(), Opcode::Deref | Opcode::Caelt);
-        self.redirect((false, fetches), from, to)
     }
 
     /// Sets the name to the value.
@@ -118,16 +112,15 @@ impl Placer {
         if self.operand_count() != 1 {
             return self.refuse(Why::Values, at);
         }
-        match self.symbol(&self.name(at)) {
-            Some(symbol) => match symbol.meaning {
-                Meaning::Word => {
-                    self.move_to(operand, symbol.register, at);
-                    self.state = self.state.with_word(symbol.register);
-                }
-                Meaning::Pointer => self.assign_pointer(&symbol, operand, at),
-                _ => self.refuse(Why::NotSettable, at),
-            },
-            None => self.refuse(Why::Unknown, at),
+        let symbol = self.symbol(&self.name(at));
+        match symbol.meaning {
+            Meaning::Word => {
+                self.move_to(operand, symbol.register, at);
+                self.state.facts |= bit(symbol.register);
+            }
+            Meaning::Pointer => self.assign_pointer(&symbol, operand, at),
+            Meaning::Nothing => self.refuse(Why::Unknown, at),
+            _ => self.refuse(Why::NotSettable, at),
         }
     }
 
@@ -150,14 +143,11 @@ impl Placer {
 
     /// Marks the block.
     pub(crate) fn make_dirty(&mut self, item: &Item) {
-        match self.symbol(&self.name(item.at)) {
-            Some(symbol) => {
-                if !matches!(symbol.meaning, Meaning::Block) {
-                    return self.refuse(Why::NoBlock, item.at);
-                }
-                self.mark(symbol.register, item.at);
-            }
-            None => self.refuse(Why::Unknown, item.at),
+        let symbol = self.symbol(&self.name(item.at));
+        match symbol.meaning {
+            Meaning::Block => self.mark(symbol.register, item.at),
+            Meaning::Nothing => self.refuse(Why::Unknown, item.at),
+            _ => self.refuse(Why::NoBlock, item.at),
         }
     }
 }

@@ -2,6 +2,7 @@
 
 use crate::placed::{with_number, with_registers};
 use crate::placer::{Construct, Operand, Placer};
+use crate::state::pair;
 use geos_image::Instr;
 use geos_opcodes::Opcode;
 use tkv_syntax::{Item, Why};
@@ -86,16 +87,6 @@ impl Placer {
         }
     }
 
-    /// The test of two blocks: whether they differ, for 6, or are one, for 7.
-    fn blocks_compared(&mut self, test: u32, left: Operand, right: Operand) -> Branch {
-        let one = self.slot_of(left);
-        let other = self.slot_of(right);
-        Branch {
-            instr: with_registers(Opcode::Sne, one, other, 0),
-            where_true: test == 7,
-        }
-    }
-
     /// Places a test. If the condition does not hold, control leaves to the end of a block.
     fn place_test(&mut self, branch: &Branch, no: u16, at: u32) {
         let yes = if branch.where_true {
@@ -104,17 +95,13 @@ impl Placer {
             no
         };
         self.test_to(branch.instr, yes, at);
-        self.note_pair(&branch.instr);
+        if branch.instr.opcode == Opcode::Sne {
+            // Two blocks differ after a comparison that did not leave.
+            self.state.facts |= pair(branch.instr.a, branch.instr.b);
+        }
         if branch.where_true {
             self.leave(no, at);
             self.end(at);
-        }
-    }
-
-    /// Two blocks differ after a comparison that did not leave.
-    fn note_pair(&mut self, instr: &Instr) {
-        if instr.opcode == Opcode::Sne {
-            self.state = self.state.with_pair(instr.a, instr.b);
         }
     }
 
@@ -124,7 +111,13 @@ impl Placer {
         let right = self.operand(0, at);
         let left = self.operand(1, at);
         let branch = if item.a >= 6 {
-            self.blocks_compared(item.a, left, right)
+            // Whether two blocks differ, for 6, or are one, for 7.
+            let one = self.slot_of(left);
+            let other = self.slot_of(right);
+            Branch {
+                instr: with_registers(Opcode::Sne, one, other, 0),
+                where_true: item.a == 7,
+            }
         } else {
             self.branch(item.a, left, right, at)
         };

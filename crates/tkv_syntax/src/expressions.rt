@@ -1,8 +1,8 @@
 //! Values and conditions. Operations that wait for their second value are in the list of open constructs.
 
 use crate::fault::Why;
-use crate::item::{Item, ItemKind};
-use crate::parser::{Parser, Part, Pending};
+use crate::item::{Item, ItemKind, NONE};
+use crate::parser::{Parser, Part};
 use crate::token::{Token, next_token};
 use crate::words::Word;
 
@@ -42,14 +42,6 @@ fn is_truth(word: Word) -> bool {
 /// The most brackets around conditions that are open at once.
 const MOST_BRACKETS: usize = 16;
 
-/// Whether the word comes after a condition, or after one in brackets.
-fn ends_condition(word: Word) -> bool {
-    matches!(
-        word,
-        Word::Both | Word::Either | Word::ParenEnd | Word::Brace | Word::Max
-    )
-}
-
 /// What comes next within a value.
 #[derive(Clone, Copy)]
 enum Next {
@@ -61,20 +53,11 @@ enum Next {
 }
 
 impl Parser {
-    /// Whether something is not closed within a value that began when so much was not.
-    fn is_open(&self, base: usize) -> bool {
-        self.pending.len() > base
-    }
-
     /// The innermost construct that is not closed, of those that began after so many others.
-    pub(crate) fn innermost(&self, base: usize) -> Pending {
+    pub(crate) fn innermost(&self, base: usize) -> Part {
         match self.pending.last() {
-            Some(pending) if self.is_open(base) => *pending,
-            _ => Pending {
-                part: Part::Nothing,
-                item: Item::new(ItemKind::End, 0),
-                level: 0,
-            },
+            Some(pending) if self.pending.len() > base => pending.part,
+            _ => Part::Nothing,
         }
     }
 
@@ -88,26 +71,24 @@ impl Parser {
     /// Adds the operations that bind at least so strongly and have their second value now.
     fn settle(&mut self, base: usize, level: u8) {
         for _ in 0..self.pending.len() {
-            if self.innermost(base).level < level {
-                break;
+            match self.innermost(base) {
+                Part::Operation(binds) if binds >= level => self.close_innermost(),
+                _ => break,
             }
-            self.close_innermost();
         }
     }
 
-    /// A name that a bracket follows: a call.
-    fn call(&mut self, at: u32) -> Next {
+    /// A name, or a call of it up to its first argument.
+    fn named(&mut self, at: u32) -> Next {
+        if !self.takes(Word::Paren) {
+            self.put_plain(ItemKind::Named, at);
+            return Next::Operator;
+        }
         if self.takes(Word::ParenEnd) {
             self.put_plain(ItemKind::Call, at);
             return Next::Operator;
         }
-        self.begin_part(
-            Part::Call,
-            Item {
-                a: 1,
-                ..Item::new(ItemKind::Call, at)
-            },
-        );
+        self.begin_part(Part::Call, ItemKind::Call, at, 1);
         let makes = self.is_named(at, "mnew") || self.is_named(at, "vnew");
         if makes && self.is(Word::Named) {
             let handle = self.expect(Word::Named);
@@ -115,15 +96,6 @@ impl Parser {
             return Next::Operator;
         }
         Next::Operand
-    }
-
-    /// A name, or a call of it.
-    fn named(&mut self, at: u32) -> Next {
-        if self.takes(Word::Paren) {
-            return self.call(at);
-        }
-        self.put_plain(ItemKind::Named, at);
-        Next::Operator
     }
 
     /// A value, or what begins one.
@@ -149,11 +121,12 @@ impl Parser {
             }
             Word::Paren => {
                 self.advance();
-                self.begin_part(Part::Group, Item::new(ItemKind::End, at));
+                self.begin_part(Part::Group, ItemKind::End, at, 0);
                 return Next::Operand;
             }
             Word::Plus | Word::Minus | Word::Set => self.refuse(Why::NoSign, at),
             Word::Not => self.refuse(Why::NoTruth, at),
+            Word::Quote => self.refuse(Why::Text, at),
             _ => {
                 let why = if self.is_reserved() {
                     Why::Reserved
@@ -171,13 +144,7 @@ impl Parser {
         self.advance();
         let at = self.expect(Word::Named);
         if self.takes(Word::Bracket) {
-            self.begin_part(
-                Part::Index,
-                Item {
-                    a: 1,
-                    ..Item::new(ItemKind::Field, at)
-                },
-            );
+            self.begin_part(Part::Index, ItemKind::Field, at, 1);
             return Next::Operand;
         }
         self.put_plain(ItemKind::Field, at);
@@ -189,7 +156,7 @@ impl Parser {
         let at = self.expect(Word::Asks);
         let item = self.retract(Why::NotRefusable);
         match item.kind {
-            ItemKind::Call | ItemKind::Field => self.add(item.kind, item.at, item.a, 1),
+            ItemKind::Call | ItemKind::Field => self.put(Item { b: 1, ..item }),
             _ => self.refuse(Why::NotRefusable, at),
         }
         Next::Operator
@@ -199,9 +166,12 @@ impl Parser {
     fn close_part(&mut self, base: usize) -> Next {
         self.settle(base, 1);
         let square = self.is(Word::BracketEnd);
-        match self.innermost(base).part {
+        match self.innermost(base) {
             Part::Index if square => self.close_innermost(),
-            Part::Call if !square => self.close_innermost(),
+            Part::Call if !square => {
+                self.end_argument(0);
+                self.close_innermost();
+            }
             Part::Group if !square => {
                 self.pending.pop();
             }
@@ -211,15 +181,27 @@ impl Parser {
         Next::Operator
     }
 
+    /// An argument of a call ends, and so many follow at least.
+    fn end_argument(&mut self, more: u32) {
+        let name = match self.items.last() {
+            Some(item) if matches!(item.kind, ItemKind::Named) => item.at,
+            _ => NONE,
+        };
+        if let Some(call) = self.pending.last_mut() {
+            if call.item.a == 1 {
+                call.item.c = name;
+            }
+            call.item.a = call.item.a.saturating_add(more);
+        }
+    }
+
     /// A comma within the arguments of a call, if it is one.
     fn next_argument(&mut self, base: usize) -> Next {
         self.settle(base, 1);
-        if !matches!(self.innermost(base).part, Part::Call) {
+        if !matches!(self.innermost(base), Part::Call) {
             return Next::Nothing;
         }
-        if let Some(call) = self.pending.last_mut() {
-            call.item.a = call.item.a.saturating_add(1);
-        }
+        self.end_argument(1);
         self.advance();
         Next::Operand
     }
@@ -231,11 +213,7 @@ impl Parser {
             Some((kind, level)) => {
                 self.advance();
                 self.settle(base, level);
-                self.suspend(Pending {
-                    part: Part::Operation,
-                    item: Item::new(kind, at),
-                    level,
-                });
+                self.begin_part(Part::Operation(level), kind, at, 0);
                 Next::Operand
             }
             None => Next::Nothing,
@@ -261,20 +239,6 @@ impl Parser {
         }
     }
 
-    /// A part of a value is not closed.
-    fn refuse_open(&mut self, part: Part) {
-        if matches!(part, Part::Nothing) {
-            return;
-        }
-        if is_truth(self.token.word) {
-            self.refuse(Why::NoTruth, self.token.at);
-        } else if matches!(part, Part::Index) {
-            self.refuse_word(Word::BracketEnd);
-        } else {
-            self.refuse_word(Word::ParenEnd);
-        }
-    }
-
     /// A value, which no comparison follows.
     pub(crate) fn value(&mut self) {
         self.side();
@@ -296,44 +260,41 @@ impl Parser {
             };
         }
         self.settle(base, 1);
-        self.refuse_open(self.innermost(base).part);
-    }
-
-    /// Adds a comparison, or its opposite, which is the next one if it is even.
-    fn add_test(&mut self, at: u32, test: u32, negated: bool) {
-        self.add(ItemKind::Test, at, test ^ u32::from(negated), 0);
-    }
-
-    /// The test that a call writes: `same` or `differ`.
-    fn block_test(&mut self, negated: bool) {
-        let item = self.retract(Why::ExpectedCondition);
-        let call = matches!(item.kind, ItemKind::Call) && item.a == 2 && item.b == 0;
-        if call && self.is_named(item.at, "differ") {
-            self.add_test(item.at, 6, negated);
-        } else if call && self.is_named(item.at, "same") {
-            self.add_test(item.at, 7, negated);
-        } else {
-            self.refuse(Why::ExpectedCondition, item.at);
+        match self.innermost(base) {
+            Part::Nothing => {}
+            _ if is_truth(self.token.word) => self.refuse(Why::NoTruth, self.token.at),
+            Part::Index => self.refuse_word(Word::BracketEnd),
+            _ => self.refuse_word(Word::ParenEnd),
         }
     }
 
-    /// A comparison of two values, or of two blocks.
+    /// The test that a call writes, with its place: `same` or `differ`.
+    fn block_test(&mut self) -> (u32, u32) {
+        if self.is(Word::Set) {
+            self.refuse_word(Word::Same);
+        }
+        let item = self.retract(Why::ExpectedCondition);
+        let call = matches!(item.kind, ItemKind::Call) && item.a == 2 && item.b == 0;
+        let same = self.is_named(item.at, "same");
+        if !call || !(same || self.is_named(item.at, "differ")) {
+            self.refuse(Why::ExpectedCondition, item.at);
+        }
+        (item.at, 6 + u32::from(same))
+    }
+
+    /// A comparison of two values, or of two blocks. Its opposite is the next one if it is even.
     fn comparison(&mut self, negated: bool) {
         self.side();
         let Token { word, at, .. } = self.token;
-        match comparison(word) {
+        let (at, test) = match comparison(word) {
             Some(test) => {
                 self.advance();
                 self.side();
-                self.add_test(at, test, negated);
+                (at, test)
             }
-            None => {
-                if word == Word::Set {
-                    return self.refuse_word(Word::Same);
-                }
-                self.block_test(negated)
-            }
-        }
+            None => self.block_test(),
+        };
+        self.add(ItemKind::Test, at, test ^ u32::from(negated), 0);
     }
 
     /// Refuses what other languages write between tests.
@@ -358,7 +319,15 @@ impl Parser {
                 return true;
             };
             if depth == 0 && place > self.token.at {
-                return ends_condition(token.word);
+                return matches!(
+                    token.word,
+                    Word::Both
+                        | Word::Either
+                        | Word::ParenEnd
+                        | Word::Brace
+                        | Word::Max
+                        | Word::Stop
+                );
             }
             match token.word {
                 Word::Paren => depth = depth.saturating_add(1),
@@ -379,13 +348,7 @@ impl Parser {
         }
         let a = u32::from(negated);
         self.add(ItemKind::Group, at, a, 0);
-        self.begin_part(
-            Part::Tests,
-            Item {
-                a,
-                ..Item::new(ItemKind::GroupEnd, at)
-            },
-        );
+        self.begin_part(Part::Tests, ItemKind::GroupEnd, at, a);
         self.put_plain(ItemKind::Alt, at);
     }
 
@@ -393,7 +356,7 @@ impl Parser {
     fn close_brackets(&mut self, base: usize) {
         for _ in 0..self.pending.len() {
             let at = self.token.at;
-            if !self.is_open(base) || !self.takes(Word::ParenEnd) {
+            if self.pending.len() <= base || !self.takes(Word::ParenEnd) {
                 break;
             }
             self.put_plain(ItemKind::AltEnd, at);
@@ -435,7 +398,7 @@ impl Parser {
             self.put_plain(ItemKind::AltEnd, at);
             self.put_plain(ItemKind::Alt, at);
         }
-        if self.is_open(base) {
+        if self.pending.len() > base {
             self.refuse_word(Word::ParenEnd);
         }
         self.put_plain(ItemKind::AltEnd, at);

@@ -14,6 +14,12 @@ pub enum Why {
     NoWord,
     /// A number is above 65,535, or has no digit, or no character is quoted.
     BadNumber,
+    /// A string is empty, too long or not closed, or has a character that is none.
+    BadText,
+    /// A string is where nothing is that it could be written into.
+    Text,
+    /// A string is longer than its field; `number` is how many bytes the field has.
+    LongText,
     /// A name has more than 16 letters.
     LongName,
     /// `word` is expected here.
@@ -30,6 +36,8 @@ pub enum Why {
     Reserved,
     /// A declaration is expected here.
     ExpectedFn,
+    /// `std` is expected after `use`.
+    ExpectedUse,
     /// A declaration is in a routine.
     Inner,
     /// A parameter is expected here.
@@ -56,6 +64,8 @@ pub enum Why {
     ExpectedLock,
     /// A name is used twice; `other` is its first place.
     Twice,
+    /// The name is that of a routine of the library, which the source uses.
+    InLibrary,
     /// The name is that of an instruction.
     Instruction,
     /// Nothing has this name here.

@@ -19,9 +19,9 @@ pub enum ItemKind {
     Mask,
     Left,
     Right,
-    /// A call with `a` arguments; `b` is 1 if `?` follows.
+    /// A call with `a` arguments; `b` is 1 if `?` follows. `c` is the offset of the first argument if that is a name.
     Call,
-    /// A field of what is before, with an index if `a` is 1; `b` is 1 if `?` follows.
+    /// A field of what is before, which may be another field, with an index if `a` is 1; `b` is 1 if `?` follows.
     Field,
     /// The name of the word that is to hold a new block's handle.
     Handle,
@@ -35,7 +35,8 @@ pub enum ItemKind {
     Let,
     /// Sets the name.
     Assign,
-    /// Sets the field, as `Field` reads it.
+    /// Sets the field, as `Field` reads it: to the value before it, or, if `c` is not 0, to the `c` bytes of a string. Each number before it then
+    /// has two bytes, the first one in its low half.
     Store,
     /// Nothing is done with what the call gives.
     Done,
@@ -100,7 +101,8 @@ pub enum ItemKind {
     BodyEnd,
     /// Names a constant.
     ConstDef,
-    /// A structure, whose fields follow: `a` is 1 for bytes, 2 for words, `b` is 1 if the count is before it.
+    /// A structure, whose fields follow: `a` is 1 for bytes, 2 for words, otherwise the constant of a structure; `b` is 1 for an array, and
+    /// `c` is how many elements it has.
     StructDef,
     FieldDef,
     StructEnd,

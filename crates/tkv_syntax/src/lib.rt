@@ -6,6 +6,7 @@
 mod expressions;
 mod fault;
 mod item;
+mod library;
 mod parser;
 mod place;
 mod statements;
@@ -14,6 +15,7 @@ mod words;
 
 pub use fault::{Fault, Why};
 pub use item::{Item, ItemKind, NONE, NUMBERS};
+pub use library::LIBRARY;
 pub use parser::{MOST_BYTES, Source, parse_source};
 pub use place::{Place, place_of};
 pub use words::{Name, Word, name_at};

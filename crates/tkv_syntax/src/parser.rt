@@ -2,6 +2,7 @@
 
 use crate::fault::{Fault, Why};
 use crate::item::{Item, ItemKind, NONE, NUMBERS};
+use crate::library::LIBRARY;
 use crate::token::{Token, next_token};
 use crate::words::{Word, byte_at, is_named};
 use std::alloc::Global;
@@ -36,7 +37,8 @@ pub(crate) enum Part {
     Group,
     Call,
     Index,
-    Operation,
+    /// An operation, and how strongly it binds, from 1.
+    Operation(u8),
 }
 
 /// A construct that is not closed, and what is to follow.
@@ -45,8 +47,6 @@ pub(crate) struct Pending {
     pub part: Part,
     /// What is added when it is closed.
     pub item: Item,
-    /// Of an operation: how strongly it binds, from 1. Otherwise 0.
-    pub level: u8,
 }
 
 /// A source that is being read. After the first fault the next word is the end of the source, so that reading soon ends too.
@@ -60,6 +60,8 @@ pub(crate) struct Parser {
     /// The items of the routine's declaration, and of its body.
     pub routine: usize,
     pub body: usize,
+    /// Whether the source uses the library.
+    uses_library: bool,
     /// The first fault, if there is one.
     fault: Option<Fault>,
 }
@@ -159,26 +161,24 @@ impl Parser {
         self.add(kind, at, 0, 0);
     }
 
-    /// Something begins, which is not closed yet.
-    pub(crate) fn suspend(&mut self, pending: Pending) {
-        if self.pending.push(pending).is_err() {
+    /// A construct begins, at whose end an item is added.
+    pub(crate) fn begin_part(&mut self, part: Part, kind: ItemKind, at: u32, a: u32) {
+        let item = Item {
+            kind,
+            at,
+            a,
+            b: 0,
+            c: 0,
+        };
+        if self.pending.push(Pending { part, item }).is_err() {
             self.refuse(Why::Memory, self.token.at);
         }
-    }
-
-    /// A construct begins, at whose end an item is added.
-    pub(crate) fn begin_part(&mut self, part: Part, item: Item) {
-        self.suspend(Pending {
-            part,
-            item,
-            level: 0,
-        });
     }
 
     /// A construct with statements begins after `{`. At their end an item of this kind is added.
     pub(crate) fn enter(&mut self, part: Part, kind: ItemKind) {
         let at = self.expect(Word::Brace);
-        self.begin_part(part, Item::new(kind, at));
+        self.begin_part(part, kind, at, 0);
     }
 
     /// Takes the last item away.
@@ -192,18 +192,11 @@ impl Parser {
         }
     }
 
-    /// Sets two fields of an item that has been added.
+    /// Sets bits of two fields of an item that has been added.
     pub(crate) fn amend(&mut self, index: usize, a: u32, b: u32) {
         if let Some(item) = self.items.get_mut(index) {
-            item.a = a;
-            item.b = b;
-        }
-    }
-
-    /// Says of an item that has been added that its field `a` is 1.
-    pub(crate) fn flag(&mut self, index: usize) {
-        if let Some(item) = self.items.get_mut(index) {
-            item.a = 1;
+            item.a |= a;
+            item.b |= b;
         }
     }
 
@@ -245,8 +238,13 @@ impl Parser {
         self.add(ItemKind::BlockParam, at, number, 0);
     }
 
-    /// A parameter after its name and a colon.
-    fn typed_parameter(&mut self, at: u32) {
+    /// A parameter.
+    fn parameter(&mut self) {
+        let at = self.expect(Word::Named);
+        if !self.takes(Word::Colon) {
+            let bound = self.bound();
+            return self.add(ItemKind::WordParam, at, 0, bound);
+        }
         let kind = self.token.at;
         let bytes = self.constant();
         if self.takes(Word::In) {
@@ -254,17 +252,6 @@ impl Parser {
             self.add(ItemKind::PointerParam, at, bytes, block);
         } else {
             self.block_parameter(at, kind);
-        }
-    }
-
-    /// A parameter.
-    fn parameter(&mut self) {
-        let at = self.expect(Word::Named);
-        if self.takes(Word::Colon) {
-            self.typed_parameter(at);
-        } else {
-            let bound = self.bound();
-            self.add(ItemKind::WordParam, at, 0, bound);
         }
     }
 
@@ -284,16 +271,6 @@ impl Parser {
         0
     }
 
-    /// Whether a result is named, with its bound.
-    fn outcome(&mut self) -> bool {
-        let named = self.takes(Word::Arrow);
-        if named {
-            self.expect(Word::Named);
-            self.bound();
-        }
-        named
-    }
-
     /// A routine up to its first statement.
     fn header(&mut self) {
         let public = self.takes(Word::Pub);
@@ -303,7 +280,11 @@ impl Parser {
         let at = self.expect(Word::Named);
         self.put_plain(ItemKind::Fn, at);
         let parameters = self.parameters();
-        let gives = self.outcome();
+        let gives = self.takes(Word::Arrow);
+        if gives {
+            self.expect(Word::Named);
+            self.bound();
+        }
         let refusable = self.takes(Word::Asks);
         self.routine = start;
         let flags = u32::from(public) + 4 * u32::from(refusable) + 8 * u32::from(gives);
@@ -313,23 +294,18 @@ impl Parser {
         self.enter(Part::Body, ItemKind::BodyEnd);
     }
 
-    /// The bytes of a field, from the offset of its size.
-    fn field_bytes(&mut self, size: u32) -> u32 {
-        if self.is_named(size, "word") {
-            return 2;
-        }
-        if !self.is_named(size, "byte") {
-            self.refuse(Why::ExpectedField, size);
-        }
-        1
-    }
-
     /// A field of a structure, up to the comma or semicolon after it.
     fn field_line(&mut self) {
         let at = self.expect(Word::Named);
         self.require(Word::Colon, Why::ExpectedField);
         let size = self.expect(Word::Named);
-        let bytes = self.field_bytes(size);
+        let bytes = if self.is_named(size, "byte") {
+            1
+        } else if self.is_named(size, "word") {
+            2
+        } else {
+            size.saturating_add(NUMBERS)
+        };
         let many = self.takes(Word::Bracket);
         let count = if many { self.constant() } else { 1 };
         if many {
@@ -362,21 +338,28 @@ impl Parser {
         self.put_plain(ItemKind::StructEnd, at);
     }
 
-    /// A constant after `const`.
-    fn named_constant(&mut self) {
-        let at = self.expect(Word::Named);
-        self.expect(Word::Set);
-        self.value();
+    /// A use of the library, after `use`.
+    fn library(&mut self) {
+        let at = self.require(Word::Named, Why::ExpectedUse);
+        if !self.is_named(at, "std") {
+            self.refuse(Why::ExpectedUse, at);
+        }
         self.expect(Word::Stop);
-        self.put_plain(ItemKind::ConstDef, at);
+        self.uses_library = true;
     }
 
     /// A declaration, a routine up to its first statement.
     fn declaration(&mut self) {
         if self.takes(Word::Const) {
-            self.named_constant();
+            let at = self.expect(Word::Named);
+            self.expect(Word::Set);
+            self.value();
+            self.expect(Word::Stop);
+            self.put_plain(ItemKind::ConstDef, at);
         } else if self.takes(Word::Struct) {
             self.structure();
+        } else if self.takes(Word::Use) {
+            self.library();
         } else {
             self.header();
         }
@@ -386,12 +369,45 @@ impl Parser {
     fn is_over(&self) -> bool {
         self.fault.is_some() || (self.is(Word::End) && self.pending.is_empty())
     }
+
+    /// Reads to the end of the text, which has at most so many bytes more.
+    fn read(&mut self, most: usize) {
+        // Each iteration takes a word at least.
+        for _ in 0..most.saturating_add(1) {
+            if self.is_over() {
+                break;
+            }
+            if self.pending.is_empty() {
+                self.declaration();
+            } else {
+                self.statement();
+            }
+        }
+        if !self.is_over() {
+            self.refuse(Why::TooMany, self.token.at);
+        }
+    }
+
+    /// Reads the library after the source, if the source uses the library.
+    fn read_library(&mut self) {
+        if self.uses_library && self.fault.is_none() {
+            let kept = self.text.extend_from_slice(LIBRARY.as_bytes()).is_ok();
+            if !kept {
+                self.refuse(Why::Memory, 0);
+            }
+            self.advance();
+            self.read(LIBRARY.len());
+        }
+    }
 }
 
 /// A source, and the named program that it writes.
 #[derive(Drop)]
 pub struct Source {
+    /// The source, and then the library if the source uses it.
     pub text: Vec<u8>,
+    /// How many bytes the source has without the library.
+    pub own: u32,
     pub items: Vec<Item>,
 }
 
@@ -409,28 +425,17 @@ pub fn parse_source(alloc: Global, text: &[u8]) -> Result<Source, Fault> {
         pending: Vec::new(alloc),
         routine: 0,
         body: 0,
+        uses_library: false,
         fault: None,
     };
     parser.advance();
-    // Each turn takes a word at least.
-    for _ in 0..=text.len() {
-        if parser.is_over() {
-            break;
-        }
-        if parser.pending.is_empty() {
-            parser.declaration();
-        } else {
-            parser.statement();
-        }
-    }
-    if !parser.is_over() {
-        let at = parser.token.at;
-        parser.refuse(Why::TooMany, at);
-    }
+    parser.read(text.len());
+    parser.read_library();
     match parser.fault {
         Some(fault) => Err(fault),
         None => Ok(Source {
             text: parser.text,
+            own: text.len() as u32,
             items: parser.items,
         }),
     }

@@ -3,26 +3,26 @@
 use crate::fault::Why;
 use crate::item::{Item, ItemKind, NONE};
 use crate::parser::{Parser, Part};
-use crate::words::{Word, name_at};
+use crate::token::character;
+use crate::words::{Word, byte_at, name_at};
+
+/// The most bytes of a string.
+const MOST_TEXT: u32 = 64;
+
+/// What `why` is after a false assertion.
+const ASSERTED: u32 = 16;
 
 impl Parser {
     /// Says of the parameter of this name, if the routine has one, that it is set.
     fn note_set(&mut self, at: u32) {
         let name = name_at(&self.text, at);
-        let first = self.routine;
-        for k in 1..9 {
-            let index = first.saturating_add(k);
+        for index in self.routine..self.body {
             let Some(item) = self.items.get(index) else {
                 return;
             };
-            match item.kind {
-                ItemKind::Body => return,
-                ItemKind::WordParam => {
-                    if name_at(&self.text, item.at) == name {
-                        self.flag(index);
-                    }
-                }
-                _ => {}
+            let word = matches!(item.kind, ItemKind::WordParam);
+            if word && name_at(&self.text, item.at) == name {
+                self.amend(index, 1, 0);
             }
         }
     }
@@ -31,7 +31,7 @@ impl Parser {
     fn finish(&mut self, start: usize) {
         let at = self.token.at;
         if self.takes(Word::Else) {
-            self.flag(start);
+            self.amend(start, 1, 0);
             self.put_plain(ItemKind::Handler, at);
             if self.is(Word::Brace) {
                 return self.enter(Part::Handler, ItemKind::HandlerEnd);
@@ -46,18 +46,6 @@ impl Parser {
         self.expect(Word::Stop);
     }
 
-    /// Refuses a statement that is a name with another name, a number or `{` after it.
-    fn refuse_named(&mut self) {
-        let named = matches!(self.token.word, Word::Named | Word::Number | Word::Brace);
-        match self.items.last() {
-            Some(item) if named && matches!(item.kind, ItemKind::Named) => {
-                let at = item.at;
-                self.refuse(Why::NoStatement, at);
-            }
-            _ => {}
-        }
-    }
-
     /// A statement that begins with a value: a lock, a call, or what sets something.
     fn plain_statement(&mut self, start: usize) {
         self.value();
@@ -67,18 +55,61 @@ impl Parser {
                 self.assignment();
                 self.finish(start);
             }
+            Word::Named | Word::Number | Word::Brace => {
+                let item = self.retract(Why::NoStatement);
+                if matches!(item.kind, ItemKind::Named) {
+                    self.refuse(Why::NoStatement, item.at);
+                }
+                self.finish(start);
+            }
             _ => {
-                self.refuse_named();
                 self.put_plain(ItemKind::Done, self.token.at);
                 self.finish(start);
             }
         }
     }
 
+    /// A string after its first quote, as numbers of two bytes each. Returns how many bytes there are.
+    fn string(&mut self) -> u32 {
+        let at = self.token.at;
+        for count in 0..MOST_TEXT + 1 {
+            let here = self.token.end;
+            let last = self.items.len().saturating_sub(1);
+            let closed = byte_at(&self.text, here as usize) == b'"';
+            if closed && count > 0 {
+                self.token.end = here.saturating_add(1);
+                self.advance();
+                return count;
+            }
+            let Some(found) = character(&self.text, here) else {
+                break;
+            };
+            if closed {
+                break;
+            }
+            self.token.end = found.end;
+            if count % 2 == 0 {
+                self.add(ItemKind::Number, at, u32::from(found.value), 0);
+            } else {
+                self.amend(last, u32::from(found.value) * 256, 0);
+            }
+        }
+        self.refuse(Why::BadText, at);
+        0
+    }
+
     /// What sets the name or field that the last item is.
     fn assignment(&mut self) {
         let target = self.retract(Why::NotSettable);
         self.advance();
+        if self.is(Word::Quote) && matches!(target.kind, ItemKind::Field) {
+            let c = self.string();
+            return self.put(Item {
+                kind: ItemKind::Store,
+                c,
+                ..target
+            });
+        }
         self.value();
         match target.kind {
             ItemKind::Named => {
@@ -241,21 +272,30 @@ impl Parser {
         self.enter(Part::Turns, ItemKind::TurnEnd);
     }
 
-    fn attempt(&mut self) {
-        let at = self.expect(Word::Try);
-        self.put_plain(ItemKind::Try, at);
-        self.enter(Part::Tried, ItemKind::TryElse);
-    }
-
-    fn scope(&mut self) {
-        self.put_plain(ItemKind::Scope, self.token.at);
-        self.enter(Part::Last, ItemKind::ScopeEnd);
+    /// A block of statements, with `try` before it or without.
+    fn block(&mut self, begin: ItemKind, part: Part, end: ItemKind) {
+        let at = self.token.at;
+        self.takes(Word::Try);
+        self.put_plain(begin, at);
+        self.enter(part, end);
     }
 
     fn mark(&mut self) {
         self.expect(Word::Dirty);
         let at = self.expect(Word::Named);
         self.put_plain(ItemKind::Dirty, at);
+        self.expect(Word::Stop);
+    }
+
+    /// `assert`: an `if` without statements, whose `else` fails.
+    fn assertion(&mut self) {
+        let at = self.expect(Word::Assert);
+        self.put_plain(ItemKind::If, at);
+        self.condition();
+        self.put_plain(ItemKind::Else, at);
+        self.add(ItemKind::Number, at, ASSERTED, 0);
+        self.add(ItemKind::Fail, at, 1, 0);
+        self.put_plain(ItemKind::IfEnd, at);
         self.expect(Word::Stop);
     }
 
@@ -267,14 +307,15 @@ impl Parser {
             Word::While => self.turns(true),
             Word::Loop => self.turns(false),
             Word::For => self.counted(),
-            Word::Try => self.attempt(),
+            Word::Try => self.block(ItemKind::Try, Part::Tried, ItemKind::TryElse),
             Word::Dirty => self.mark(),
-            Word::Brace => self.scope(),
+            Word::Assert => self.assertion(),
+            Word::Brace => self.block(ItemKind::Scope, Part::Last, ItemKind::ScopeEnd),
             Word::Break | Word::Continue | Word::Fail | Word::Return => {
                 self.leave();
                 self.expect(Word::Stop);
             }
-            Word::Pub | Word::Inline | Word::Fn | Word::Const | Word::Struct => {
+            Word::Pub | Word::Inline | Word::Fn | Word::Const | Word::Struct | Word::Use => {
                 self.refuse(Why::Inner, self.token.at)
             }
             Word::Stop => self.refuse(Why::Empty, self.token.at),
@@ -290,7 +331,11 @@ impl Parser {
             return self.refuse(Why::Unreached, at);
         };
         if matches!(pending.part, Part::Body) {
-            return self.close_body(at);
+            if self.is(Word::Else) {
+                self.amend(self.body, 1, 0);
+                self.put_plain(ItemKind::BodyElse, at);
+            }
+            return self.followed(at, ItemKind::BodyEnd);
         }
         self.put_plain(pending.item.kind, at);
         match pending.part {
@@ -326,21 +371,13 @@ impl Parser {
         }
     }
 
-    fn close_body(&mut self, at: u32) {
-        if self.is(Word::Else) {
-            self.flag(self.body);
-            self.put_plain(ItemKind::BodyElse, at);
-        }
-        self.followed(at, ItemKind::BodyEnd);
-    }
-
     /// What follows the first statements of an `if`.
     fn close_then(&mut self, at: u32) {
         if !self.takes(Word::Else) {
             self.put_plain(ItemKind::IfEnd, at);
             self.close_chain(at);
         } else if self.is(Word::If) {
-            self.begin_part(Part::Chained, Item::new(ItemKind::IfEnd, at));
+            self.begin_part(Part::Chained, ItemKind::IfEnd, at, 0);
             self.conditional();
         } else {
             self.enter(Part::Other, ItemKind::IfEnd);
@@ -350,7 +387,7 @@ impl Parser {
     /// The end of each `if` whose `else if` has ended.
     fn close_chain(&mut self, at: u32) {
         for _ in 0..self.pending.len() {
-            if !matches!(self.innermost(0).part, Part::Chained) {
+            if !matches!(self.innermost(0), Part::Chained) {
                 break;
             }
             self.pending.pop();

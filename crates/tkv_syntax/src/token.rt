@@ -124,13 +124,45 @@ fn number(text: &[u8], at: u32, end: u32) -> Option<u16> {
     }
 }
 
-/// The character that is quoted here, as a number, if one is.
-fn quoted(text: &[u8], at: u32) -> Option<u16> {
-    let value = letter(text, plus(at, 1));
-    if value < b' ' || value > b'~' || letter(text, plus(at, 2)) != b'\'' {
-        return None;
+/// A character, and where it ends.
+#[derive(Clone, Copy)]
+pub(crate) struct Written {
+    pub value: u8,
+    pub end: u32,
+}
+
+/// The character that is written here, perhaps by a backslash and a letter, if one is.
+pub(crate) fn character(text: &[u8], at: u32) -> Option<Written> {
+    let byte = letter(text, at);
+    let escapes = byte == b'\\';
+    let written = if escapes {
+        letter(text, plus(at, 1))
+    } else {
+        byte
+    };
+    let value = match written {
+        b'n' if escapes => 10,
+        b't' if escapes => 9,
+        b'\\' | b'\'' | b'"' => written,
+        b' '..=b'~' if !escapes => written,
+        _ => return None,
+    };
+    Some(Written {
+        value,
+        end: plus(at, 1 + u32::from(escapes)),
+    })
+}
+
+/// The quoted character here: also a backslash, which then is no escape.
+fn quoted(text: &[u8], at: u32) -> Result<Token, Fault> {
+    let start = plus(at, 1);
+    if let Some(found) = character(text, start)
+        && letter(text, found.end) == b'\''
+    {
+        return valued(at, plus(found.end, 1), Some(u16::from(found.value)));
     }
-    Some(u16::from(value))
+    let alone = letter(text, start) == b'\\' && letter(text, plus(at, 2)) == b'\'';
+    valued(at, plus(at, 3), if alone { Some(92) } else { None })
 }
 
 /// A number, if it is one.
@@ -172,7 +204,7 @@ pub(crate) fn next_token(text: &[u8], from: u32) -> Result<Token, Fault> {
         return valued(at, end, number(text, at, end));
     }
     if byte == b'\'' {
-        return valued(at, plus(at, 3), quoted(text, at));
+        return quoted(text, at);
     }
     if byte.is_ascii_alphabetic() {
         return spelled(text, at);

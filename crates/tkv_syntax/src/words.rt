@@ -14,6 +14,7 @@ pub enum Word {
     Fn,
     Const,
     Struct,
+    Use,
     Let,
     If,
     Else,
@@ -27,6 +28,7 @@ pub enum Word {
     As,
     Out,
     Dirty,
+    Assert,
     Fail,
     Return,
     Break,
@@ -63,10 +65,12 @@ pub enum Word {
     BraceEnd,
     Bracket,
     BracketEnd,
+    /// What begins and ends a string.
+    Quote,
 }
 
 /// Each word with its text, or with what messages call it. The order is that of `Word`; longer signs come first.
-static WORDS: [(Word, &str); 57] = [
+static WORDS: [(Word, &str); 60] = [
     (Word::End, "the end"),
     (Word::Named, "a name"),
     (Word::Number, "a number"),
@@ -75,6 +79,7 @@ static WORDS: [(Word, &str); 57] = [
     (Word::Fn, "fn"),
     (Word::Const, "const"),
     (Word::Struct, "struct"),
+    (Word::Use, "use"),
     (Word::Let, "let"),
     (Word::If, "if"),
     (Word::Else, "else"),
@@ -88,6 +93,7 @@ static WORDS: [(Word, &str); 57] = [
     (Word::As, "as"),
     (Word::Out, "out"),
     (Word::Dirty, "dirty"),
+    (Word::Assert, "assert"),
     (Word::Fail, "fail"),
     (Word::Return, "return"),
     (Word::Break, "break"),
@@ -124,6 +130,7 @@ static WORDS: [(Word, &str); 57] = [
     (Word::BraceEnd, "}"),
     (Word::Bracket, "["),
     (Word::BracketEnd, "]"),
+    (Word::Quote, "\""),
 ];
 
 impl Word {

@@ -17,9 +17,9 @@ use Rattle.tkv_meaning.specs.Written.{RoutineDoes}
 use Rattle.tkv_checks.specs.Items.{SpellsRoutine}
 use Rattle.tkv_checks.specs.Checked.{IsWritten}
 
--- a run did what placed items say: under allowed choices their statement takes the first scope to the last one; the kernel's memory, the words
--- and the output are those of the last scope; each block is locked as often as in the first one; and after a stop within the run the file opens
--- as what it kept in one of the scopes
+-- a run did what placed items say. Under allowed choices their statement takes the first scope to the last one. The
+-- kernel's memory, the words and the output are those of the last scope, and each lock count is the same as in the
+-- first scope. After a stop within the run the file opens as what it had committed in one of the scopes.
 pub record DidAsWritten (honest : Type 0) (within : Within) (items : List Placed) (first : Scope) (old new : KernelState) (outcome : Outcome)
     : Type 0 where
   pub body : Stmt
