@@ -165,6 +165,10 @@ TAKHVOI_CALL uint32_t takhvoi_is_sure(takhvoi_kernel *kernel, uint16_t *sure);
  * as the region takes the limit away. What would be more is refused with TAKHVOI_NO_ROOM, in a run too, after blocks of the file were evicted
  * that are neither locked nor marked. So a run never takes more. */
 TAKHVOI_CALL uint32_t takhvoi_limit(takhvoi_kernel *kernel, uint32_t more);
+/* Lets new blocks of memory get only handles up to `last`, until the next such call; 1,024 takes the limit away. A new block gets the lowest free
+ * handle, so at most `last` blocks have such handles at once. One more is refused with TAKHVOI_NO_HANDLE, in a run too. To let a routine make n
+ * blocks beside those with handles 1 to m, pass m + n. */
+TAKHVOI_CALL uint32_t takhvoi_limit_blocks(takhvoi_kernel *kernel, uint16_t last);
 
 /* Blocks of memory. One that is not locked may move, which C never sees. */
 TAKHVOI_CALL uint32_t takhvoi_mnew(takhvoi_kernel *kernel, uint16_t *handle);
@@ -284,6 +288,8 @@ TAKHVOI_CALL uint32_t takhvoi_load_granted(takhvoi_kernel *kernel, const uint8_t
                                            uint64_t *place, uint32_t *rule, uint16_t *routine, uint32_t *effect);
 /* What a routine of an image does, with those that it calls. NOT_ADMITTED if there is no such image or routine. */
 TAKHVOI_CALL uint32_t takhvoi_effects(takhvoi_kernel *kernel, uint32_t image, uint16_t routine, uint32_t *effects);
+/* The budget of a routine of an image: a run of it takes at most so many steps. NOT_ADMITTED if there is no such image or routine. */
+TAKHVOI_CALL uint32_t takhvoi_budget(takhvoi_kernel *kernel, uint32_t image, uint16_t routine, uint32_t *budget);
 /* Frees an image: its number is given again. */
 TAKHVOI_CALL uint32_t takhvoi_unload(takhvoi_kernel *kernel, uint32_t image);
 /* The number of the routine with a name: no two of an image have the same. NOT_ADMITTED if there is no such image or routine. */

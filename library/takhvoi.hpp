@@ -227,6 +227,10 @@ public:
     Result<std::uint32_t> effects() const {
         return detail::told<std::uint32_t>([&](std::uint32_t *bits) { return takhvoi_effects(&file_->kernel, image_, routine_, bits); });
     }
+    /// How many steps a run of it takes at most.
+    Result<std::uint32_t> budget() const {
+        return detail::told<std::uint32_t>([&](std::uint32_t *steps) { return takhvoi_budget(&file_->kernel, image_, routine_, steps); });
+    }
     using Words = std::array<std::uint16_t, 8>;
     /// The locked blocks of the VM file that are lent for s0, s1, s2, s3; nullptr for a slot that borrows none.
     using Lent = std::initializer_list<const LockedBlock *>;
@@ -399,6 +403,8 @@ public:
 
     /// Lets all blocks in memory together have `more` bytes more than they have, at most the whole region, until the next such call.
     Result<void> limit(std::uint32_t more) { return detail::ended(takhvoi_limit(get(), more)); }
+    /// Lets new blocks of memory get only handles up to `last`, until the next such call; 1,024 takes the limit away.
+    Result<void> limit_blocks(std::uint16_t last) { return detail::ended(takhvoi_limit_blocks(get(), last)); }
 
     /// Loads an image, which the verifier checks. The fault's place is the offset of the first faulty byte (TAKHVOI_BAD_IMAGE), or the first
     /// instruction that its rule refuses (TAKHVOI_REFUSED).

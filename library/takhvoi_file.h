@@ -25,7 +25,8 @@ TAKHVOI_CALL uint32_t takhvoi_file_open(takhvoi_file *file, const char *path, ui
 
 /* Makes a file that is not there yet, takes its lock, and makes the file and its path last. The file gets the path only when it is whole; so
  * if the call is not done, or the program or the machine stops meanwhile, the path has no file. (On a file system without links an empty file
- * has the path for a moment before.) A stop may leave a file `.geos-part-N` in the folder, which the next call there removes. */
+ * has the path for a moment before.) A stop may leave a file `.geos-part-N` in the folder. If N is below 16, the next call
+ * that makes a file in this folder removes it. */
 TAKHVOI_CALL uint32_t takhvoi_file_create(takhvoi_file *file, const char *path, uint32_t area, uint32_t region);
 
 /* A commit, of which nothing is answered as done before the file has it. DISK may also come where the kernel has committed and the file

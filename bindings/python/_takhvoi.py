@@ -90,7 +90,7 @@ _KERNEL, _BYTES, _ROOM = ctypes.POINTER(RawFile), ctypes.c_char_p, ctypes.POINTE
 # What calls take behind the kernel, and the names of these calls.
 _CALLS = {
     (): "file_close file_update file_save file_revert",
-    (U16,): "mlock mfree vlock vdirty vfree vsetmap gfree",
+    (U16,): "limit_blocks mlock mfree vlock vdirty vfree vsetmap gfree",
     (U32,): "limit unlock lcontract unload",
     (_OUT16,): "is_sure mnew vgetmap gnew",
     (U16, U16): "ifree isetmap",
@@ -115,7 +115,7 @@ _CALLS = {
     (U32, U16, U16, U16, _BYTES, _SIZE): "cawrite",
     (_BYTES, _SIZE, _OUT32, _OUT64, _OUT32): "load",
     (_BYTES, _SIZE, U32, _OUT32, _OUT64, _OUT32, _OUT16, _OUT32): "load_granted",
-    (U32, U16, _OUT32): "effects",
+    (U32, U16, _OUT32): "effects budget",
     (_OUT16, _SIZE, _OUT32): "mlist vlist",
     (U16, _OUT16, _SIZE, _OUT32): "ilist",
     (U32, _OUT16, _SIZE, _OUT32): "llist",

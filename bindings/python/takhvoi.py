@@ -255,7 +255,11 @@ class Kernel:
 
     def limit(self, more: int) -> None:
         """Lets all blocks in memory together have `more` bytes more than they have, at most the whole region, until the next such call."""
-        self._call("limit", U32(min(more, 0xFFFFFFFF)))
+        self._call("limit", bytes_of(min(more, 0xFFFFFFFF)))
+
+    def limit_blocks(self, last: int) -> None:
+        """Lets new blocks of memory get only handles up to `last`, until the next such call; 1,024 takes the limit away."""
+        self._call("limit_blocks", sixteen(min(last, 0xFFFF)))
 
     def load(self, image: Data, grants: Effect = Effect.ALL) -> Image:
         """Loads an image, which the verifier checks. Its public routines do only what has its bit in `grants`: else the Error has the routine and
@@ -483,6 +487,12 @@ class Image:
         number, bits = self.routine(routine) if isinstance(routine, str) else sixteen(routine), U32()
         self._kernel._call("effects", self._given(), number, bits)
         return Effect(bits.value)
+
+    def budget(self, routine: Union[int, str]) -> int:
+        """How many steps a run of a routine takes at most."""
+        number, steps = self.routine(routine) if isinstance(routine, str) else sixteen(routine), U32()
+        self._kernel._call("budget", self._given(), number, steps)
+        return steps.value
 
     def run(
         self,

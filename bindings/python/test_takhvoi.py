@@ -115,6 +115,11 @@ class Blocks(unittest.TestCase):
                     kernel.make_block()
             kernel.limit(2**40)
             block.make_chunk(984)
+            kernel.limit_blocks(1)
+            with self.refuses(5):
+                kernel.make_block()
+            kernel.limit_blocks(1024)
+            kernel.make_block()
 
     def test_items_change(self) -> None:
         kernel = self.kernel
@@ -156,6 +161,7 @@ class Blocks(unittest.TestCase):
         with kernel.load(takhvoi.assemble(text)) as image:
             self.assertEqual(image.run("add", [20, 22]), ([42, 22] + [0] * 6, [42], 3))
             self.assertEqual(image.run("add", [1, 2], room=0).output, [])
+            self.assertEqual((image.budget("add"), image.budget(1)), (4, 6))
             with kernel.make_file_block(1) as block, kernel.make_block() as memory:
                 block.make_chunk(b"*")
                 self.assertEqual(image.run(image.routine("first"), lent=[block]).words[0], 42)

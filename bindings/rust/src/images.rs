@@ -20,11 +20,11 @@ pub mod effects {
     pub const MEMORY: u32 = 2;
     /// Locks memory blocks by their handles.
     pub const LOCKS_BY_HANDLE: u32 = 4;
-    /// Finds, locks or reads what is not lent of the VM file.
+    /// Finds, locks or reads blocks and groups of the VM file by handle, even lent ones, or reads user IDs or the map.
     pub const READS_FILE: u32 = 8;
-    /// Changes what is not lent of the VM file.
+    /// Makes, frees or changes blocks, groups or items of the VM file by handle, even lent ones.
     pub const CHANGES_FILE: u32 = 16;
-    /// Changes the map block or the map item.
+    /// Names another map block or map item, or none.
     pub const MAP: u32 = 32;
     /// Updates, saves or reverts the VM file.
     pub const COMMITS: u32 = 64;
@@ -104,6 +104,12 @@ impl Kernel {
     pub fn effects_of(&self, routine: Routine<'_>) -> Result<u32> {
         let (own, mut bits) = (self.own(routine.image)?, 0);
         done(unsafe { raw::takhvoi_effects(self.raw(), own, routine.number, &mut bits) }).map(|()| bits)
+    }
+
+    /// How many steps a run of a routine takes at most.
+    pub fn budget_of(&self, routine: Routine<'_>) -> Result<u32> {
+        let (own, mut budget) = (self.own(routine.image)?, 0);
+        done(unsafe { raw::takhvoi_budget(self.raw(), own, routine.number, &mut budget) }).map(|()| budget)
     }
 
     /// That this kernel has loaded the image.

@@ -294,6 +294,12 @@ impl Kernel {
         done(unsafe { raw::takhvoi_limit(self.raw(), more) })
     }
 
+    /// Lets new blocks of memory get only handles up to `last`, until the next such call; 1,024 takes the limit away. One more block is refused, in
+    /// a run too, as if all handles were in use.
+    pub fn limit_blocks(&self, last: u16) -> Result<()> {
+        done(unsafe { raw::takhvoi_limit_blocks(self.raw(), last) })
+    }
+
     /// Commits what has changed; a revert takes it back until the next save. It happens whole or not at all.
     pub fn update(&mut self) -> Result<()> {
         self.parts().1.update()

@@ -39,6 +39,7 @@ extern "C" {
     pub fn takhvoi_close(kernel: *mut RawKernel) -> u32;
     pub fn takhvoi_is_sure(kernel: *mut RawKernel, sure: *mut u16) -> u32;
     pub fn takhvoi_limit(kernel: *mut RawKernel, more: u32) -> u32;
+    pub fn takhvoi_limit_blocks(kernel: *mut RawKernel, last: u16) -> u32;
     pub fn takhvoi_mnew(kernel: *mut RawKernel, handle: *mut u16) -> u32;
     pub fn takhvoi_mlock(kernel: *mut RawKernel, handle: u16) -> u32;
     pub fn takhvoi_mfree(kernel: *mut RawKernel, handle: u16) -> u32;
@@ -105,6 +106,7 @@ extern "C" {
         effect: *mut u32,
     ) -> u32;
     pub fn takhvoi_effects(kernel: *mut RawKernel, image: u32, routine: u16, effects: *mut u32) -> u32;
+    pub fn takhvoi_budget(kernel: *mut RawKernel, image: u32, routine: u16, budget: *mut u32) -> u32;
     pub fn takhvoi_unload(kernel: *mut RawKernel, image: u32) -> u32;
     pub fn takhvoi_routine(kernel: *mut RawKernel, image: u32, name: *const u8, name_len: usize, routine: *mut u16) -> u32;
     pub fn takhvoi_run(

@@ -41,7 +41,12 @@ fn memory_is_limited() -> Result<()> {
     drop(other);
     kernel.limit(u32::MAX)?;
     block.mark()?.make_chunk(984)?;
-    Ok(())
+    // Two blocks have handles: `other` was unlocked, not freed.
+    kernel.limit_blocks(2)?;
+    assert_eq!(kernel.make_block().err(), Some(Error::NoHandle));
+    kernel.limit_blocks(3)?;
+    drop(kernel.make_block()?);
+    kernel.limit_blocks(1_024)
 }
 
 #[test]
@@ -143,6 +148,7 @@ fn a_routine_borrows_a_block() -> Result<()> {
     let add = kernel.routine(&image, "add")?;
     let outcome = kernel.run(add, [1, 2, 0, 0, 0, 0, 0, 0], [None; 4], &mut [])?;
     assert_eq!((outcome.words[0], outcome.count, outcome.steps), (3, 0, 2));
+    assert_eq!(kernel.budget_of(add)?, 2);
     assert_eq!(kernel.routine(&image, "none").err(), Some(Error::NotAdmitted));
     let mut block = kernel.make_file_block(1)?;
     block.mark()?.make_chunk_of(b"*")?;

@@ -1,4 +1,4 @@
--- A device goes on from an earlier state where some image is none that a stop since then may have left.
+-- A device has continued from an earlier state if there is an image that a stop since then cannot have left.
 use Rattle.std.proofs.Common.{◌≡◌, ◌∙◌, ◌⊎◌, ℕ, suc, List, [], ◌∷◌, ◌++◌, drop, get_or, length, map, refl, ap, sym, inl, inr, arith}
 use Rattle.std.proofs.lemmas.Bool.{cases_eq}
 use Rattle.std.proofs.lemmas.List.{drop_at}
@@ -38,7 +38,7 @@ not-false (inr not) never = absurd (never not)
 bytes-same : (xs ys : List ℕ) → (xs ≡ ys) ⊎ (xs ≡ ys → ⊥)
 bytes-same = same-or-not cases_eq
 
--- what a list has behind another is what it has behind so many elements
+-- the part of a list after a prefix is the rest after as many elements
 behind : (front all more : List (List ℕ)) → all ≡ front ++ more → all ≡ front ++ drop (length front) all
 behind front all more is = is ∙ ap (λ xs. front ++ xs) (sym (ap (drop (length front)) is ∙ drop_at front more (length front) refl))
 
@@ -57,7 +57,7 @@ module _ (old new : HostDevice) where
   here : (c : List ℕ) → (MayLeave old c → ⊥) → MayHaveLeft old old c → ⊥
   here c never left = never (at_once old c left)
 
-  -- it goes on where it is false that it does not
+  -- it has continued if the contrary is false
   pub goes-if : ((GoesOn old new → ⊥) → ⊥) → GoesOn old new
   goes-if never =
       let front = map told (journal_of old) in

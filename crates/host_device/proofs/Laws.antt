@@ -40,7 +40,7 @@ left-more bytes had step before c since = by (suc (length before) - had) refl si
         let P : ℕ → Type 0 = λ n. LeavesSince (before_step bytes step) n before c in
         inl (subst P same past)
 
--- a device goes on over two stretches
+-- continuing is transitive
 pub goes-then : (a b c : HostDevice) → GoesOn a b → GoesOn b c → GoesOn a c
 goes-then a b c one two = record {
   more = one.more ++ two.more;
@@ -48,7 +48,7 @@ goes-then a b c one two = record {
   follows = λ host was. two.follows host (one.follows host was);
 }
 
--- where it goes on, what is lost later was lost before
+-- a state that the device has lost after continuing was lost before
 lost-before : (start old new : HostDevice) → GoesOn old new → (GoesOn start new → ⊥) → GoesOn start old → ⊥
 lost-before start old new goes lost went = lost (goes-then start old new went goes)
 

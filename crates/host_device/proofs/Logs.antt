@@ -1,4 +1,4 @@
--- What a log's records stand for stays while bytes are put behind those that it has.
+-- The meaning of a log's records does not change while bytes are appended to it.
 use Rattle.std.proofs.Common.{append_assoc, ◌≡◌, ◌∙◌, ℕ, zero, suc, ◌+◌, ◌≤◌, All, List, [], ◌∷◌, ◌++◌, length, length-append, map, take_all, refl, ap, arith}
 use Rattle.std.specs.Prelude.{Result, Ok, Err, OnErr}
 use Rattle.std.proofs.lemmas.List.{map-append}
@@ -16,7 +16,7 @@ part-front (x ∷ xs) ys zero zero within = refl
 part-front (x ∷ xs) ys zero (suc n) within = ap (λ zs. x ∷ zs) (part-front xs ys zero n (omega (arith, within)))
 part-front (x ∷ xs) ys (suc at) n within = part-front xs ys at n (omega (arith, within))
 
--- the bytes behind
+-- the appended bytes
 part-behind : (xs ys : List ℕ) (n : ℕ) → length ys ≤ n → part (xs ++ ys) (length xs) n ≡ ys
 part-behind [] ys n long = take_all n ys long
 part-behind (x ∷ xs) ys n long = part-behind xs ys n long
@@ -38,7 +38,7 @@ pub on-err : {A E P : Type 0} (r : Result A E) → P → OnErr r P
 on-err (Ok a) so = tt
 on-err (Err e) so = so
 
--- two lists of bytes are put behind, for a write
+-- two lists of bytes are appended, for a write
 module _ (log stood given : List ℕ) (same : length stood ≡ length given) where
   pub both : List ℕ
   both = (log ++ stood) ++ given

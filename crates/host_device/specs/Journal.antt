@@ -11,7 +11,7 @@ use Rattle.vm_file.proofs.Touches.{touched_part}
 use Rattle.host_device.specs.declared.device.HostDevice.{HostDevice}
 use Rattle.host_device.specs.Notes.{Note, Write, Sync}
 
--- a host's bytes after it has performed these steps, of which the last one comes first
+-- a host's bytes after it has performed these steps, the last step first
 abbrev pub performed : List ℕ → List Note → List ℕ
 performed host [] = host
 performed host (Write at stood bytes ∷ before) = with_part (performed host before) at bytes
@@ -22,8 +22,8 @@ abbrev pub before_step : List ℕ → Note → List ℕ
 before_step bytes (Write at stood given) = with_part bytes at stood
 before_step bytes Sync = bytes
 
--- what a stop may leave after these steps, of which the last one comes first, if they resulted in these bytes. After a sync the bytes last. A
--- range that was written since may have any bytes
+-- what a stop may leave after these steps, the last step first, if they resulted in these
+-- bytes. After a sync the bytes are durable. A range that was written since may have any bytes.
 abbrev pub Leaves : List ℕ → List Note → List ℕ → Type 0
 Leaves bytes [] c = c ≡ bytes
 Leaves bytes (Write at stood given ∷ before) c = AfterWrite at (length stood) (Leaves (with_part bytes at stood) before) c
@@ -59,7 +59,8 @@ abbrev pub told : Note → List ℕ
 told (Write at stood bytes) = at ∷ bytes
 told Sync = []
 
--- the device has continued from an earlier state: it has the notes of that state, and perhaps more after them; and `Follows` holds
+-- the device has continued from an earlier state: it has the notes of
+-- that state, possibly more notes after them, and `Follows` is true
 pub record GoesOn (old new : HostDevice) : Type 0 where
   pub more : List (List ℕ)
   pub notes : map told (journal_of new) ≡ map told (journal_of old) ++ more
@@ -122,7 +123,7 @@ medium = record {
   syncs = MaySync;
 }
 
--- the bytes that steps result in are among those that a stop may leave
+-- a stop may leave the bytes that steps result in
 pub leaves_now : (steps : List Note) (bytes : List ℕ) → Leaves bytes steps bytes
 leaves_now [] bytes = refl
 leaves_now (Write at stood given ∷ before) bytes =

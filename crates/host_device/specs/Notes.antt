@@ -1,4 +1,4 @@
--- The notes of a device's calls, and where a log has them.
+-- The notes of a device's calls, and where they are in a log.
 use Rattle.std.specs.Prelude.{ℕ, ◌+◌, ◌≤◌, ◌≡◌, List, Option, Some, None}
 use Rattle.lmem_raw.specs.Bytes.{part}
 use Rattle.host_device.specs.declared.record.Record.{Record}
@@ -21,7 +21,8 @@ abbrev pub IsWithin : ℕ → Record → Type 0
 IsWithin most (kind.Write at from len) = from + len + len ≤ most
 IsWithin most kind.Sync = Unit {0}
 
--- the step that a host gets is that of the note, if there is one: the offset and the new bytes of a write, or a sync
+-- the step that a host gets is the step of the note, if there
+-- is one: the offset and the new bytes of a write, or a sync
 abbrev pub Tells : Option Step → Option Note → Type 0
 Tells None None = Unit {0}
 Tells (Some (step.Write at bytes)) (Some (Write from stood given)) = (at ≡ from) × (bytes.now ≡ given)

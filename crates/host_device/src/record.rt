@@ -1,4 +1,4 @@
-//! Where the bytes of a call are in the log.
+//! The place of a call's bytes in the log.
 
 /// A call in the log.
 #[derive(Drop)]

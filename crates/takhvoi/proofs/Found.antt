@@ -8,7 +8,7 @@ use Rattle.geos_calls.specs.VmFile.{VmFile}
 use Rattle.geos_calls.specs.Memory.{Memory}
 use Rattle.takhvoi.specs.Lists.{Fills, Lists, those_below}
 
--- what fits of a list stands at the beginning of another, whose rest stays
+-- the beginning of a list that fits overwrites the beginning of another, whose rest stays the same
 pub filled : (bs ws : List ℕ) (n : ℕ) → n ≤ length ws → n ≤ length bs → (n < length ws → length bs ≤ n) → take n ws ++ drop n bs ≡ with_part bs 0 ws
 filled [] ws zero a b c = refl
 filled [] ws (suc n) a b c = absurd (omega (arith, b))
@@ -22,7 +22,7 @@ none-put : (bs : List ℕ) → with_part bs 0 [] ≡ bs
 none-put [] = refl
 none-put (b ∷ bs) = refl
 
--- one more is written behind them
+-- one more element is written after the others
 more-in : (start found : List ℕ) (n : ℕ) → length found < length start
     → with_part start 0 (found ++ n ∷ []) ≡ slice_set (with_part start 0 found) (length found) n
 more-in [] found n h = absurd (omega (arith, h))

@@ -68,7 +68,7 @@ module _ (m : Memory) where
       subst (λ (m1 : Memory). locks_of m1 (vm (suc i)) ≡ locks_of m (vm (suc i)) + 1) is
       (entry-locks m.file.cur.blocks i (locks_of m (vm (suc i)) + 1) there)
 
--- the tests of bringing a group, and those of an item behind them
+-- the tests of bringing a group, then those of an item
 abbrev four : Bool → Bool → Bool → Bool → List (Bool × Refusal)
 four b1 b2 b3 b4 = (b1, BadHandle) ∷ (b2, Locked) ∷ (b3, NoRoom) ∷ (b4, Disk) ∷ []
 

@@ -127,7 +127,8 @@ module _ (a b : KernelState) (first : Calls (Unit {0}) looks (Ok tt) a b) where
       → (f : VmFile) → IsFileOf (Unit {0}) a f → t ≡ test (memory_of a f) n
   looks-found test n t found = stays-found test n t a b (stays-with a b first) found
 
--- a span into a block stood only if that was locked, so if it was locked once more, and is unlocked, its last lock is not given back
+-- a block with a valid span is locked. So if it is locked once more and then unlocked, the unlock does not release
+-- its last lock
 pub fresh-still : (old : KernelState) (before after : Memory) (name : Name) → locks_of after name ≡ locks_of before name + 1
     → locks_of before name ≡ store.locks_of old.blocks (slot_of name) → (ref : Reference) → 0 < store.locks_of old.blocks (slot_of ref.name)
     → IsFresh after (OfLock name) ref

@@ -62,7 +62,7 @@ module _ (old new : HostDevice) (begins : journal_of old ≡ []) where
       let all : length (steps_of new) ≡ length (steps_of new) - length (steps_of old) = omega (arith, none) in
       inl (subst (λ n. LeavesSince (bytes_of new) n (steps_of new) c) all left)
 
--- from one kernel to another a stop leaves what was kept before or after
+-- a stop between two kernels leaves the committed pair of one of them
 module _ (old new : KernelOn HostDevice) (between : Between medium old new) where
   module _ (f g : VmFile) (was : IsFileOf (Unit {0}) old.core f) (now : IsFileOf (Unit {0}) new.core g) where
     either-long : (c : List ℕ) → OpensAsKept f.kept c ⊎ OpensAsKept g.kept c → 512 < length c
@@ -79,6 +79,6 @@ module _ (old new : KernelOn HostDevice) (between : Between medium old new) wher
       | inr opens ↦ opens
     ]
 
--- a run's stop leaves what was kept at one of its steps
+-- a stop in a run leaves the committed pair of one of its steps
 pub goes-running : (old new : HostDevice) (keeps : List Kept) → ((c : List ℕ) → MayHaveLeft old new c → OpensAsOneOf keeps c) → GoesOn old new
 goes-running old new keeps all = goes-if old new (λ lost. (let long = some-long keeps [] (all [] (inr lost)) in omega (arith, long)))

@@ -4,7 +4,7 @@ use Rattle.std.proofs.Common.{is_none, is_some, slice_get, slice_index_or, slice
 use Rattle.geos_image.specs.Parts.{Parts}
 use Rattle.takhvoi.specs.Images.{IsLowestFree}
 
--- elements stay where one is put behind them
+-- elements stay the same if one is appended
 pub stays_behind : {X : Type 0} (xs : List X) (y : X) (n : ℕ) (x : X) → slice_get xs n ≡ Some x → slice_get (xs ++ y ∷ []) n ≡ Some x
 stays_behind [] y n x e = absurd cc
 stays_behind (z ∷ xs) y zero x e = e
@@ -15,7 +15,7 @@ pub is_last : {X : Type 0} (xs : List X) (y : X) → slice_get (xs ++ y ∷ []) 
 is_last [] y = refl
 is_last (z ∷ xs) y = is_last xs y
 
--- nothing stands behind the last
+-- there is no element after the last
 pub none_past : {X : Type 0} (xs : List (Option X)) (x : X) → slice_get xs (length xs) ≡ Some (Some x) → ⊥
 none_past [] x e = absurd cc
 none_past (z ∷ xs) x e = none_past xs x e

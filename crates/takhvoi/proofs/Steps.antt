@@ -1,4 +1,4 @@
--- What a span tells of the reference for which it stands.
+-- What a span implies for its reference.
 use Rattle.std.proofs.Common.{◌≡◌, ◌∙◌, ℕ, Result, Ok, Err, refl, ap, sym, subst}
 use Rattle.std.specs.Prelude.{IfOk, OnErr}
 use Rattle.geos_terms.specs.declared.refusal.Refusal.{Refusal}
@@ -10,7 +10,8 @@ use Rattle.geos_kernel.specs.Spans.{Stands}
 use Rattle.geos_kernel.specs.View.{KernelState}
 use Rattle.takhvoi.specs.Answers.{IsStatus}
 
--- a span that stands for what a row gives says that the row refuses nothing, and what holds of each reference for which it stands
+-- if a row returns the reference of a valid span, it refuses nothing, and what holds of each reference of the span
+-- holds of this one
 pub given-span : (s : KernelState) (span : Span) (given : Result Reference Refusal) (P : Reference → Type 0) → StandsFor s (Ok span) given
     → ((ref : Reference) → Stands s span ref → P ref) → IsStatus given 0 × IfOk given P
 given-span s span (Ok ref) P stands holds = (refl, holds ref stands)

@@ -6,7 +6,7 @@ use Rattle.geos_terms.specs.declared.refusal.Refusal.{Refusal}
 use Rattle.geos_terms.specs.Refusals.{refusal_number}
 use Rattle.geos_calls.specs.Effects.{Call}
 use Rattle.geos_kernel.specs.Kernel.{Calls}
-use Rattle.geos_kernel.specs.Limits.{with_room}
+use Rattle.geos_kernel.specs.Limits.{with_last_handle, with_room}
 use Rattle.host_device.specs.Journal.{GoesOn, MayHaveLeft, MayLeave, bytes_of, journal_of}
 use Rattle.takhvoi.specs.declared.system.System.{System}
 use Rattle.takhvoi.specs.declared.handle.Handle.{Handle}
@@ -66,6 +66,10 @@ Looks fact status old new = (status ≡ 0) × (new.kernel ≡ old.kernel) × fac
 -- the call is done, and changes only how many bytes blocks may have: so many more than they have, at most the whole region
 abbrev pub Limits : ℕ → ℕ → System → System → Type 0
 Limits more status old new = (status ≡ 0) × (new.kernel.core ≡ with_room old.kernel.core more) × (new.kernel.device ≡ old.kernel.device)
+
+-- the call is done, and changes only which handles new blocks of global memory may get: those up to this one
+abbrev pub LimitsBlocks : ℕ → ℕ → System → System → Type 0
+LimitsBlocks last status old new = (status ≡ 0) × (new.kernel.core ≡ with_last_handle old.kernel.core last) × (new.kernel.device ≡ old.kernel.device)
 
 -- for a number below 100 `came` holds; a number from 100 on is the library's own: then `own` holds, and the kernel is as before. In both cases
 -- the images stay, and so does whether a host performs the notes

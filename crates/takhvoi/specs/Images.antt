@@ -6,7 +6,7 @@ use Rattle.geos_image.specs.Legal.{text_end}
 use Rattle.geos_image.specs.Parts.{Parts}
 use Rattle.geos_image.specs.Reading.{image_at}
 use Rattle.geos_image.specs.declared.routine.Routine.{Routine}
-use Rattle.geos_entry.specs.Entry.{admits, entry_slots}
+use Rattle.geos_verify.specs.Entry.{admits, entry_slots}
 use Rattle.geos_verify.specs.declared.rule.Reject.{Reject}
 use Rattle.geos_verify.specs.Rules.{FirstRefusal, IsChecked}
 use Rattle.geos_verify.specs.RuleText.{rule_number}
@@ -78,6 +78,13 @@ TellsEffects n r told status old new =
     (new ≡ old)
     × (status ≡ 0 → (image : Parts) × (effects : Effects) × StandsFor old n image × (r < length image.routines) × (told ≡ bits_of effects)
     × ((effect : Effect) → has effects effect ≡ has_effect image effect r))
+    × ((status ≡ 0 → ⊥) → (status ≡ 114) × ((image : Parts) → StandsFor old n image → length image.routines ≤ r))
+
+-- the number is the routine's budget; or the answer is 114, and there is no such image or routine
+abbrev pub TellsBudget : ℕ → ℕ → ℕ → ℕ → System → System → Type 0
+TellsBudget n r told status old new =
+    (new ≡ old)
+    × (status ≡ 0 → (image : Parts) × StandsFor old n image × IsSomeAnd (slice_get image.routines r) (λ routine. told ≡ routine.budget))
     × ((status ≡ 0 → ⊥) → (status ≡ 114) × ((image : Parts) → StandsFor old n image → length image.routines ≤ r))
 
 -- if it is done, no image has the number; the kernel and the other images stay. Otherwise the status is 114, no image had the number, and

@@ -30,7 +30,7 @@ fn end_of(at: u16, len: usize) -> Option<u16>
     }
 }
 
-/// Where bytes are: the block with a number, what the value refers to, and an offset there.
+/// The place of bytes: the number of a block, what the value refers to, and an offset there.
 #[derive(Clone, Copy)]
 struct Place {
     block: u32,

@@ -9,8 +9,8 @@ ghost use Rattle.takhvoi.specs.Texts.{EndsLine, Gives, GivesOrTells, IsExplained
 use crate::status::{BAD_IMAGE, NO_MEMORY};
 use crate::texts::give;
 use geos_asm::{Assembled, Unassembled, assemble_or_tell};
-use geos_causes::Cause;
 use geos_explain::{explain, explain_cause, explain_text};
+use geos_flow::Cause;
 use geos_image::{Image, ReadError};
 use geos_lines::{tell_faults, tell_many_steps};
 use geos_source::Parsed;

@@ -4,7 +4,7 @@ ghost use Rattle.std.specs.Prelude.{◌≡◌, ◌≤◌, ◌<◌, Err, IfNone, 
 ghost use Rattle.geos_grants.specs.Grants.{IsExcess, IsGranted, IsGrantedBelow};
 ghost use Rattle.takhvoi.specs.Answers.{On};
 ghost use Rattle.takhvoi.specs.Bits.{bit_of, bit_of_slot, bits_of, effects_in, flag_bit, has_bit, slot_bits, slots_in};
-ghost use Rattle.takhvoi.specs.Images.{IsDenied, IsLoadedGranted, IsRejected, TellsEffects};
+ghost use Rattle.takhvoi.specs.Images.{IsDenied, IsLoadedGranted, IsRejected, TellsBudget, TellsEffects};
 ghost use Rattle.geos_image.specs.Reading.{image_at};
 ghost use Rattle.geos_verify.specs.Rules.{IsChecked};
 
@@ -231,6 +231,39 @@ pub extern "C" fn takhvoi_effects(
         return NO_KERNEL;
     };
     let status = effects_in_image(&system, number, routine, effects);
+    put(handle, system);
+    status
+}
+
+fn budget_in_image(system: &System, number: u32, routine: u16, budget: &mut u32) -> u32
+    ensures { TellsBudget number routine budget.new result system.now system.now }
+{
+    let Some(checked) = image_of(&system.images, number) else {
+        return NOT_ADMITTED;
+    };
+    let image = checked.image();
+    if routine >= image.count() {
+        return NOT_ADMITTED;
+    }
+    *budget = image.routine(routine).budget;
+    DONE
+}
+
+/// Writes the budget of a routine of an image: a run of it takes at most so many steps. `NOT_ADMITTED` if there is no such image or routine.
+#[unsafe(no_mangle)]
+pub extern "C" fn takhvoi_budget(
+    alloc: Global,
+    handle: &mut Handle,
+    number: u32,
+    routine: u16,
+    budget: &mut u32,
+) -> u32
+    ensures { On (TellsBudget number routine budget.new result) result handle.old handle.new }
+{
+    let Some(system) = take(alloc, handle) else {
+        return NO_KERNEL;
+    };
+    let status = budget_in_image(&system, number, routine, budget);
     put(handle, system);
     status
 }

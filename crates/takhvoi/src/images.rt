@@ -7,7 +7,7 @@ ghost use Rattle.geos_image.specs.Parts.{Parts};
 ghost use Rattle.geos_image.specs.Reading.{image_at};
 ghost use Rattle.takhvoi.specs.Answers.{On};
 ghost use Rattle.geos_calls.specs.VmFile.{VmFile};
-ghost use Rattle.geos_entry.specs.Entry.{admits, entry_slots};
+ghost use Rattle.geos_verify.specs.Entry.{admits, entry_slots};
 ghost use Rattle.geos_kernel.specs.View.{IsFileOf};
 ghost use Rattle.geos_machine.specs.Lent.{Lends};
 ghost use Rattle.geos_machine.specs.Runs.{Gave, Throughout};
@@ -22,7 +22,7 @@ use crate::status::{self, BAD_IMAGE, DONE, NO_KERNEL, NO_MEMORY, NOT_ADMITTED, P
 use crate::system::System;
 use geos_image::{Image, ReadError};
 use geos_kernel::{Kernel, Refusal};
-use geos_machine::{Machine, Outcome, admits};
+use geos_machine::{Machine, Outcome, Unwatched, admits};
 use geos_verify::{Checked, Rule, check};
 use granted_runs::{RoutineCall, run_granted};
 use std::alloc::Global;
@@ -235,7 +235,7 @@ fn run_on<'m, D: Device + Drop>(
         words: &start.words,
         handles: &start.handles,
     };
-    run_granted(machine, &call, kernel)
+    run_granted(machine, &call, kernel, &mut Unwatched)
 }
 
 fn run_in(

@@ -3,7 +3,7 @@
 ghost use Rattle.std.specs.Prelude.{◌≡◌, ◌≢◌, ◌⊎◌, ◌≤◌, Err, [], false, true};
 ghost use Rattle.host_device.specs.Journal.{journal_of};
 ghost use Rattle.vm_file.specs.Reading.{file_at, is_area};
-ghost use Rattle.takhvoi.specs.Answers.{Done, IsFlag, Limits, Looks, Served};
+ghost use Rattle.takhvoi.specs.Answers.{Done, IsFlag, Limits, LimitsBlocks, Looks, Served};
 ghost use Rattle.takhvoi.specs.Own.{NoOwn};
 ghost use Rattle.takhvoi.specs.Starts.{Began, IsMade, IsNew, IsNoRegion, IsOpened, IsStarted};
 
@@ -184,6 +184,27 @@ pub extern "C" fn takhvoi_limit(alloc: Global, handle: &mut Handle, more: u32) -
         return NO_KERNEL;
     };
     let status = limit(&mut system, more);
+    put(handle, system);
+    status
+}
+
+fn limit_blocks(system: &mut System, last: u16) -> u32
+    ensures { Done NoOwn (LimitsBlocks last) result system.old system.new }
+{
+    system.kernel.limit_handles(last);
+    DONE
+}
+
+/// Lets new blocks of memory get only handles up to `last`, until the next such call; 1,024 takes the limit away. So no more than `last` blocks
+/// have such handles at once. One more is refused with 5.
+#[unsafe(no_mangle)]
+pub extern "C" fn takhvoi_limit_blocks(alloc: Global, handle: &mut Handle, last: u16) -> u32
+    ensures { Served NoOwn (LimitsBlocks last) result handle.old handle.new }
+{
+    let Some(mut system) = take(alloc, handle) else {
+        return NO_KERNEL;
+    };
+    let status = limit_blocks(&mut system, last);
     put(handle, system);
     status
 }

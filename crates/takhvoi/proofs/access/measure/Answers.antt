@@ -1,4 +1,4 @@
--- The span is as long as the reference for which it stands.
+-- The span is as long as its reference.
 use Rattle.std.proofs.Common.{◌≡◌, ◌≤◌, refl, arith}
 use Rattle.takhvoi.proofs.Steps.{given-span}
 use Rattle.takhvoi.proofs.access.measure.Goals as goal

@@ -1,4 +1,4 @@
--- The range ends where it is said to.
+-- The range ends at the given end.
 use Rattle.std.proofs.Common.{length, subst}
 use Rattle.geos_calls.specs.Calls as table
 use Rattle.takhvoi.specs.Answers.{ChangesIn, Served}

@@ -1,4 +1,4 @@
--- The span leads into a block that may be changed, and the bytes are stored at the reference for which it stands.
+-- The span is in a block that may be changed, and the bytes are stored at its reference.
 use Rattle.std.proofs.Common.{◌≤◌, Ok, refl, arith}
 use Rattle.geos_calls.specs.Calls.{store}
 use Rattle.geos_kernel.specs.Kernel.{Calls}

@@ -1,4 +1,4 @@
--- The number stands for what the bytes spell.
+-- The number is that of the image that the bytes encode.
 use Rattle.std.proofs.Common.{refl, inl, inr, ⊎_elim, arith}
 use Rattle.takhvoi.proofs.images.load_in.Goals as goal
 

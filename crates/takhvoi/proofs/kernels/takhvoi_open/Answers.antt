@@ -1,4 +1,4 @@
--- What was opened is what the bytes spell.
+-- The opened file is the one that the bytes encode.
 use Rattle.std.proofs.Common.{◌≡◌, ◌∙◌, Ok, refl, ap, sym, subst}
 use Rattle.vm_file.specs.Reading.{file_at}
 use Rattle.vm_file.specs.State.{file_of}

@@ -1,4 +1,4 @@
--- The bytes stand at the beginning of the buffer, and the rest stays.
+-- The buffer begins with the bytes, and its rest stays the same.
 use Rattle.std.proofs.Common.{◌∙◌, ◌++◌, List, ℕ, ap, drop, length, refl, sym, arith}
 use Rattle.std.proofs.Math.Seq.{take-length}
 use Rattle.takhvoi.proofs.Found.{filled}

@@ -37,7 +37,7 @@ use Rattle.takhvoi.proofs.handle.Handle.none.Code as code
 abbrev stayed : Stays ended.signature.params ended.kept
 stayed = (stay_dropped (plain (λ _. global_row)) yes, tt)
 
--- any value: nothing is said of it
+-- any value will do
 no_directory : Directory
 no_directory = record { entries = record { items = [] }; map_block = 0; map_item = (0, 0) }
 
@@ -55,7 +55,7 @@ no_device a = record { cache = record { bytes = no_vec a; failures = 0 }; log = 
 
 nothing_held : Global → System
 nothing_held a = record {
-  kernel = record { core = record { blocks = record { blocks = []; places = []; len = record { region = 0; most = 0 } }; vm = no_vm }; device = no_device a };
+  kernel = record { core = record { blocks = record { blocks = []; places = []; len = record { region = 0; most = 0; handles = 0 } }; vm = no_vm }; device = no_device a };
   machine = record { words = []; counters = []; slots = []; pointers = []; outcome = record { words = []; output = record { items = [] }; steps = 0 } };
   images = record { ptr = null_ptr; len = 0; cap = 0; alloc = a; items = []; ok = (refl, omega arith); small = omega arith };
   hosted = false;
