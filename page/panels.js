@@ -1,19 +1,5 @@
 // Registers, the bytes of a block, and the text.
 
-const $ = (id) => document.getElementById(id);
-
-function node(tag, attributes = {}, ...inside) {
-  const made = document.createElement(tag);
-  for (const [name, value] of Object.entries(attributes)) {
-    if (value !== false && value !== undefined) made.setAttribute(name, value === true ? "" : value);
-  }
-  made.append(...inside.filter((part) => part !== null && part !== undefined && part !== false));
-  return made;
-}
-
-const times = (n) => n === 1 ? "once" : n === 2 ? "twice" : n + " times";
-const hex4 = (n) => "0x" + n.toString(16).padStart(4, "0");
-
 function register(name, kind, value, small) {
   return node("div", { class: kind, "data-register": name }, node("b", {}, name), value, small ? node("small", {}, small) : null);
 }
@@ -59,40 +45,6 @@ function show_registers(run, place) {
   );
 }
 
-// The most bytes of a chunk that are drawn.
-const MOST_DRAWN = 1024;
-const per_row = () => window.innerWidth < 560 ? 8 : 16;
-const letter_of = (byte) => byte >= 32 && byte < 127 ? String.fromCharCode(byte) : "\u00b7";
-const bytes_of = (hex) => (hex.match(/../g) || []).slice(0, MOST_DRAWN).map((pair) => parseInt(pair, 16));
-
-// A row of bytes, in hexadecimal digits and as text.
-function byte_row(bytes, from, count, kind_of) {
-  const cells = [node("th", { scope: "row" }, String(from))];
-  for (let i = from; i < from + count; i++) {
-    const is_there = i < bytes.length;
-    cells.push(node("td", { class: is_there ? kind_of(i) : false }, is_there ? bytes[i].toString(16).padStart(2, "0") : "  "));
-  }
-  const letters = bytes.slice(from, from + count).map(letter_of).join("");
-  return node("tr", {}, ...cells, node("td", { class: "ascii" }, letters));
-}
-
-// The rows of bytes; of rows of zeros that did not change only the first one.
-function byte_rows(bytes, kind_of) {
-  const rows = [];
-  const wide = per_row();
-  const is_plain = (i) => bytes[i] === 0 && !/changed/.test(kind_of(i));
-  for (let from = 0; from < bytes.length; from += wide) {
-    rows.push(byte_row(bytes, from, wide, kind_of));
-    let end = from;
-    while (end < bytes.length && is_plain(end)) end++;
-    const more = Math.floor((end - from) / wide) - 1;
-    if (more < 2) continue;
-    rows.push(node("tr", {}, node("th", {}, "\u22ee"), node("td", { class: "quiet", colspan: wide + 1 }, `${more * wide} more zero bytes`)));
-    from += more * wide;
-  }
-  return rows;
-}
-
 function chunk_panel(run, block, was, c, place) {
   const old = was?.chunks.find((o) => o.chunk === c.chunk);
   const [bytes, before] = [bytes_of(c.hex), old ? bytes_of(old.hex) : []];
@@ -135,23 +87,12 @@ function show_tabs(run, place, chosen, choose) {
   $("tabs").replaceChildren(...tabs);
 }
 
-// The code of a line, with its comment apart.
-function code_of(code) {
-  const at = code.indexOf(";");
-  const parts = at < 0 ? [shown(code)] : [shown(code.slice(0, at)), node("span", { class: "comment" }, shown(code.slice(at)))];
-  return node("span", { class: "code" }, ...parts);
-}
-
-function known_of(known) {
-  const parts = known.split(/([sp]\d=[^ ,]+)/).map((part) => /^[sp]\d=/.test(part) ? node("span", { class: part[0] }, part) : part);
-  return node("span", { class: "known" }, ...parts);
-}
-
 function make_lines(run, go_to_line) {
   const rows = run.lines.map((line, row) => {
     const can = run.places[row].length > 0;
-    const item = node("li", { class: can ? "can" : false, title: can ? `runs ${times(run.places[row].length)}` : undefined },
-      node("span", { class: "n" }, line.number), code_of(line.code), known_of(line.known));
+    const kinds = [can && "can", !line.known && "plain"].filter((kind) => kind).join(" ");
+    const item = node("li", { class: kinds || false, title: can ? `runs ${times(run.places[row].length)}` : undefined },
+      node("span", { class: "n" }, line.number), code_of(line.code), line.known ? known_of(line.known) : null);
     if (can) item.addEventListener("click", () => go_to_line(row));
     return item;
   });

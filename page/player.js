@@ -11,6 +11,7 @@ class Player {
     this.region = new Region(run, (key) => this.choose(key));
     this.marked = [];
     this.head();
+    if (!run.states.length) return;
     this.listen();
     this.go(this.place_in_address());
   }
@@ -22,7 +23,9 @@ class Player {
     $("about").textContent = `${run.file} \u00b7 ${run.data.steps} steps of a budget of ${run.data.budget}`;
     $("slider").max = run.last;
     const cuts = [];
-    if (!run.whole) cuts.push(`The page shows the first ${run.states.length} of ${run.data.steps} steps.`);
+    const last = run.skipped + run.states.length;
+    if (!run.states.length) cuts.push(`The page shows no step: the run has ${run.data.steps}.`);
+    else if (last < run.data.steps || run.skipped) cuts.push(`The page shows steps ${run.skipped + 1} to ${last} of ${run.data.steps}: \`geos trace --steps A..B\` chooses others.`);
     if (run.data.blocks_cut) cuts.push("Notes of blocks were too long: those of later steps are left out.");
     $("cut").textContent = cuts.join(" ");
     $("cut").hidden = !cuts.length;
@@ -66,7 +69,7 @@ class Player {
   // The place in the address, as #step=5.
   place_in_address() {
     const found = /^#step=(\d+)$/.exec(location.hash);
-    return found ? +found[1] : 0;
+    return found ? +found[1] - this.run.skipped : 0;
   }
 
   // To the next step at a line, or else to the first one.
@@ -121,7 +124,7 @@ class Player {
   show() {
     const { run, place } = this;
     $("slider").value = place;
-    $("where").textContent = `step ${place} of ${run.data.steps}`;
+    $("where").textContent = `step ${run.skipped + place} of ${run.data.steps}`;
     $("slider").setAttribute("aria-valuetext", $("where").textContent);
     for (const id of ["first", "back"]) $(id).disabled = place === 0;
     for (const id of ["on", "last"]) $(id).disabled = place === run.last;
@@ -139,7 +142,7 @@ class Player {
   show_done() {
     const { run, place } = this;
     const step = place ? run.steps[place - 1] : null;
-    const parts = step ? [`${step.number}: ${step.code} `, node("b", {}, step.did)] : ["At the start. "];
+    const parts = step ? [`${step.number}: ${step.code} `, node("b", {}, step.did)] : [run.skipped ? `After ${run.skipped} steps. ` : "At the start. "];
     const moved = run.blocks_at(place).filter((b) => this.has_moved(b));
     if (moved.length) parts.push(node("i", {}, ` \u2013 ${moved.map((b) => b.key).join(", ")} moved`));
     const stale = run.targets[place].map((t, n) => t && t.stale === place ? "p" + n : null).filter((name) => name);
@@ -179,7 +182,7 @@ class Player {
   show_commits() {
     const commits = this.run.commits.filter((commit) => commit.place <= this.place);
     $("commits-section").hidden = !this.run.commits.length;
-    $("commits").replaceChildren(...commits.map((c) => node("span", { class: "tag" + (c.place === this.place ? " news" : "") }, `step ${c.place}: ${c.said}`)));
+    $("commits").replaceChildren(...commits.map((c) => node("span", { class: "tag" + (c.place === this.place ? " news" : "") }, `step ${this.run.skipped + c.place}: ${c.said}`)));
     if (!commits.length) $("commits").append(node("span", { class: "quiet" }, "nothing yet"));
   }
 
@@ -187,7 +190,7 @@ class Player {
     const { run, place } = this;
     const count = run.outputs[Math.min(place, run.outputs.length - 1)];
     const is_new = place > 0 && run.outputs[place - 1] < count;
-    const words = run.data.output.slice(0, count).map((word, n) => node("span", { class: is_new && n === count - 1 ? "changed" : false, title: hex4(word) }, String(word)));
+    const words = run.words.slice(0, count).map((word, n) => node("span", { class: is_new && n === count - 1 ? "changed" : false, title: hex4(word) }, String(word)));
     $("output").replaceChildren(...(words.length ? words : [node("i", { class: "quiet" }, "nothing yet")]));
   }
 }

@@ -1,20 +1,10 @@
 // The picture of the region: chunks at their places, frames around the chunks of a block, and pointers.
 
-const SVG = "http://www.w3.org/2000/svg";
 // As wide as it is shown, so that letters keep their size.
 const WIDTH = window.innerWidth < 900 ? Math.max(320, window.innerWidth - 30) : Math.min(1000, window.innerWidth / 2);
 const [TOP, HIGH, EDGE] = [40, 40, 14];
-
-function draw(tag, attributes = {}, ...inside) {
-  const node = document.createElementNS(SVG, tag);
-  for (const [name, value] of Object.entries(attributes)) node.setAttribute(name, value);
-  node.append(...inside);
-  return node;
-}
-
-const hue_of = (chunk) => ((chunk - 16) / 2 * 67 + 210) % 360;
-const fill_of = (chunk) => `hsl(${hue_of(chunk)} 65% var(--chunk))`;
-const line_of = (chunk) => `hsl(${hue_of(chunk)} 50% var(--chunk-line))`;
+// The width of a letter of a frame's name.
+const LETTER = 8;
 
 class Region {
   constructor(run, choose) {
@@ -77,7 +67,8 @@ class Region {
     used.add(key);
   }
 
-  put_frame(block, chosen, slots, used) {
+  // A frame, with a name that fits into the room before the next frame.
+  put_frame(block, chosen, slots, room, used) {
     const group = this.piece(block.key, () => {
       const made = draw("g", {}, draw("title"), draw("rect", { y: TOP, height: HIGH, rx: 4, x: -4 }), draw("text", { y: TOP - 7, x: -3 }));
       made.addEventListener("click", () => this.choose(block.key));
@@ -88,7 +79,8 @@ class Region {
     group.style.transform = `translate(${this.x(block.from)}px, 0)`;
     group.children[0].textContent = `${block.key}, ${block.locks ? "locked " + block.locks + " times" : "not locked"}`;
     group.children[1].setAttribute("width", this.width(block.from, block.to) + 8);
-    group.children[2].textContent = [block.key, ...slots].join(" \u2190 ");
+    const names = [[block.key, ...slots].join(" \u2190 "), block.key, ""];
+    group.children[2].textContent = names.find((name) => name.length * LETTER <= room);
     used.add(block.key);
   }
 
@@ -121,7 +113,9 @@ class Region {
     this.above.replaceChildren();
     for (const block of blocks) {
       for (const c of block.chunks) this.put_chunk(block, c, used);
-      this.put_frame(block, chosen, this.run.slots_of(block, place), used);
+      const next = blocks.map((other) => other.from).filter((from) => from > block.from);
+      const room = next.length ? this.x(Math.min(...next)) - this.x(block.from) - 4 : Infinity;
+      this.put_frame(block, chosen, this.run.slots_of(block, place), room, used);
       const was = place ? this.run.block(block.key, place - 1) : null;
       if (was?.placed && was.locks && (was.from !== block.from)) this.moved(was, block);
     }

@@ -2,22 +2,12 @@
 
 // Strings of the run have a character for each byte.
 const text_of = (bytes) => new TextDecoder().decode(Uint8Array.from(bytes, (c) => c.charCodeAt(0)));
-// Control characters are shown as their pictures.
-const shown = (text) => text.replace(/[\0-\x08\x0b-\x1f]/g, (c) => String.fromCharCode(0x2400 + c.charCodeAt(0))).replace(/\x7f/g, "\u2421");
-const lines_of = (text) => text.replace(/\n$/, "").split("\n");
 
 // What instructions on the VM file do.
 const COMMITS = { VUPDATE: "current area committed", VSAVE: "saved area committed", VREVERT: "back to the saved area", VDIRTY: "block marked as changed", IDIRTY: "group marked as changed" };
 
 const OWNERS = ["block", "file block"];
 const key_of = (owner, handle) => OWNERS[owner] + " " + handle;
-
-// A line of `geos explain`: its number, its text, and what is known there.
-function explained_line(line) {
-  const [, number, rest] = /^(\d*)\t?(.*)$/s.exec(line);
-  const known = / ; ([^;]*\bsteps?)$/.exec(rest);
-  return { number, code: known ? rest.slice(0, known.index) : rest, known: known ? known[1] : "" };
-}
 
 // A line of `geos trace`: the line of the text, the instruction, and what it did.
 function traced_line(line) {
@@ -43,15 +33,16 @@ function block_of([, owner, handle, locks, marked, chunks]) {
   return { key: key_of(owner, handle), vm: owner === 1, handle, locks, marked, chunks: list, from, to, placed: list.length > 0 };
 }
 
-// For each block the places at which it changed, and how.
-function histories(rows) {
+// For each block the places at which it changed, and how. Rows have the numbers of steps.
+function histories(rows, skipped) {
   const all = new Map();
   for (const row of rows) {
     const block = block_of(row);
     if (!all.has(block.key)) all.set(block.key, []);
     const history = all.get(block.key);
-    if (history.length && history[history.length - 1].place === row[0]) history.pop();
-    history.push({ place: row[0], block });
+    const place = row[0] - skipped;
+    if (history.length && history[history.length - 1].place === place) history.pop();
+    history.push({ place, block });
   }
   return all;
 }
@@ -75,11 +66,14 @@ class Run {
     this.lines = lines_of(text_of(data.explained)).map(explained_line);
     this.steps = lines_of(text_of(data.traced)).slice(0, -1).map(traced_line).slice(0, data.states.length);
     this.states = data.states.map(state_of);
-    this.blocks = histories(data.blocks);
+    this.skipped = data.skipped;
+    this.blocks = histories(data.blocks, this.skipped);
     // A run that is told to its end has one more place, where nothing is left to do.
-    this.whole = this.states.length === data.steps;
+    this.whole = this.skipped + this.states.length === data.steps;
     this.last = Math.max(0, this.whole ? this.states.length : this.states.length - 1);
     this.outputs = this.output_counts();
+    // Words that were output before the first step here are not among them.
+    this.words = this.skipped ? this.steps.filter((step) => step.did.startsWith("out ")).map((step) => +step.did.slice(4)) : data.output;
     this.find_lines();
     this.targets = this.pointer_targets();
     this.commits = this.file_changes();
@@ -153,7 +147,7 @@ class Run {
 
   // What each pointer was set to: at each place four targets, or null.
   pointer_targets() {
-    const all = [[null, null, null, null]];
+    const all = [[0, 1, 2, 3].map((pointer) => this.first_target(pointer))];
     this.steps.forEach((step, n) => {
       const after = all[n].map((target, p) => this.checked_target(target, p, n + 1));
       const set = /\bp(\d)=(?:p(\d)|(?:(element \d+) of )?(chunk|item) (\d+) of s(\d))/.exec(step.did);
@@ -161,6 +155,16 @@ class Run {
       all.push(after);
     });
     return all;
+  }
+
+  // What a pointer was set to before the first step here, if the verifier knows it.
+  first_target(pointer) {
+    const found = this.skipped ? new RegExp("\\bp" + pointer + "=s(\\d)").exec(this.known(0)) : null;
+    if (!found || !this.states.length) return null;
+    const { at, len } = this.state(0).spans[pointer];
+    const key = this.state(0).slots[found[1]];
+    const chunk = this.block(key, 0)?.chunks.find((c) => c.at <= at && at + len <= c.at + c.len);
+    return chunk ? { key, chunk: chunk.chunk, element: undefined, at, len, offset: at - chunk.at, set: 0, stale: 0 } : null;
   }
 
   new_target([, pointer, , element, , chunk, slot], place) {

@@ -1,32 +1,49 @@
-"""Writes the page of a run, without the run, as strings of the crate geos_trace, each in a file of its own.
+"""Writes the pages of `geos trace`, `explain` and `map`, without their data, as strings of the crates geos_trace and geos_pages.
 
     python3 tools/page.py [FOLDER]
 
-FOLDER is crates/geos_trace/src if it is not given. The page is page/page.html with the style of page/page.css, and with the scripts of
-page/ in the order below.
+FOLDER is crates/ if it is not given. A page is a file .html of page/, with styles and scripts of page/ in the order below.
 """
 
 import sys
+from dataclasses import dataclass
 from pathlib import Path
 
 TOP = Path(__file__).resolve().parent.parent
-SCRIPTS = ("run.js", "region.js", "panels.js", "player.js")
-# The script at which the part after the run is cut in two.
+HEAD = "//! {}. Made by tools/page.py from page/.\n"
+# The script at which the part after a run is cut in two.
 PANELS = "panels.js"
-# Where the run comes.
-RUN = "<!-- run -->\n"
-HEAD = '//! The page around a run. Made by tools/page.py from page/.\n'
 
 
-def page() -> str:
-    """The page, with a line in the place of the run."""
-    folder = TOP / "page"
-    script = "\n".join((folder / name).read_text() for name in SCRIPTS)
-    if "</script" in script:
-        raise SystemExit("page: a script has `</script`, which would end it")
-    whole = (folder / "page.html").read_text()
-    whole = whole.replace("/* page.css */\n", (folder / "page.css").read_text())
-    return whole.replace("/* script */\n", script)
+@dataclass
+class Page:
+    """A page: its file, its styles and its scripts."""
+
+    name: str
+    scripts: tuple[str, ...]
+
+    @property
+    def whole(self) -> str:
+        """The page, with lines in the place of its data."""
+        folder = TOP / "page"
+        script = "\n".join((folder / name).read_text() for name in self.scripts)
+        if "</script" in script:
+            raise SystemExit("page: a script has `</script`, which would end it")
+        whole = (folder / f"{self.name}.html").read_text()
+        for style in ("base.css", f"{self.name}.css"):
+            before, after = whole.split(f"/* {style} */\n")
+            whole = before + (folder / style).read_text() + after
+        return whole.replace("/* script */\n", script)
+
+    def ends(self, *places: str) -> tuple[str, str]:
+        """What precedes the first place, and what follows the last one."""
+        return self.whole.split(places[0])[0], self.whole.split(places[-1])[1]
+
+
+RUN = Page("run", ("shared.js", "listing.js", "bytes.js", "run.js", "region.js", "panels.js", "player.js"))
+EXPLAINED = Page("explain", ("shared.js", "listing.js", "findings.js", "graph.js", "explain.js"))
+MAP = Page("map", ("shared.js", "bytes.js", "map.js"))
+PLACES = ("<!-- text -->\n", "<!-- data -->\n")
 
 
 def literal(text: str) -> str:
@@ -36,18 +53,27 @@ def literal(text: str) -> str:
     return '"' + text.replace("\\", "\\\\").replace('"', '\\"') + '"'
 
 
-def write(file: Path, name: str, said: str, text: str) -> None:
-    """Writes a file with a text as a constant."""
-    file.write_text(f"{HEAD}\n/// {said}\npub(crate) const {name}: &str = {literal(text)};\n")
+def write(file: Path, about: str, *constants: tuple[str, str, str]) -> None:
+    """Writes a file with texts as constants: for each what it is, its name, and the text."""
+    file.parent.mkdir(parents=True, exist_ok=True)
+    parts = [f"\n/// {said}\npub(crate) const {name}: &str = {literal(text)};\n" for said, name, text in constants]
+    file.write_text(HEAD.format(about) + "".join(parts))
 
 
 def main(words: list[str]) -> None:
-    folder = Path(words[0]) if words else TOP / "crates/geos_trace/src"
-    before, _, after = page().partition(RUN)
+    folder = Path(words[0]) if words else TOP / "crates"
+    trace, pages = folder / "geos_trace/src", folder / "geos_pages/src"
+    before, after = RUN.ends("<!-- run -->\n")
     run = after[: after.index((TOP / "page" / PANELS).read_text())]
-    write(folder / "page_begin.rt", "BEFORE_RUN", "What precedes the run.", before)
-    write(folder / "page_run.rt", "AFTER_RUN", "What follows the run, up to the script of the panels.", run)
-    write(folder / "page_panels.rt", "PANELS", "The rest of the page.", after[len(run) :])
+    write(trace / "page_begin.rt", "The page around a run", ("What precedes the run.", "BEFORE_RUN", before))
+    write(trace / "page_run.rt", "The page around a run", ("What follows the run, up to the script of the panels.", "AFTER_RUN", run))
+    write(trace / "page_panels.rt", "The page around a run", ("The rest of the page.", "PANELS", after[len(run) :]))
+    before, after = EXPLAINED.ends(*PLACES)
+    write(pages / "explained_page.rt", "The page around a text and its data", ("What precedes the text.", "BEFORE_EXPLAINED", before))
+    write(pages / "explained_script.rt", "The page around a text and its data", ("What follows the data.", "AFTER_EXPLAINED", after))
+    before, after = MAP.ends(*PLACES)
+    write(pages / "map_page.rt", "The page around a VM file", ("What precedes the drawing.", "BEFORE_MAP", before), ("What follows the data.", "AFTER_MAP", after))
 
 
-main(sys.argv[1:])
+if __name__ == "__main__":
+    main(sys.argv[1:])

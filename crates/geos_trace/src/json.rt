@@ -89,7 +89,7 @@ impl Json {
         self.put(&[high, low]);
     }
 
-    /// Appends a byte of a string. `<` is escaped too, so that no string ends the script that it stands in.
+    /// Appends a byte of a string. It also escapes `<`, so that no string ends the script that contains it.
     fn put_in_string(&mut self, byte: u8) {
         match byte {
             b'"' => self.put(b"\\\""),

@@ -15,7 +15,7 @@ pub const MOST_STEPS: u32 = 10_000;
 /// The most bytes of notes, of states and of blocks each.
 const MOST_NOTES: usize = 32 << 20;
 
-/// The block that a slot held when it was last looked at.
+/// The block that a slot had when the trace last read it.
 #[derive(Drop)]
 struct View {
     name: Name,
@@ -30,11 +30,12 @@ struct View {
 /// What a machine and its kernel had before each step of a run: registers, and the blocks that slots hold, each when it has changed.
 #[derive(Drop)]
 pub struct Notes {
-    most: u32,
+    skipped: u32,
+    last: u32,
     steps: u32,
     states: Json,
     blocks: Json,
-    /// The block that is looked at.
+    /// The block that the trace is reading.
     block: Json,
     views: [View; 4],
 }
@@ -75,10 +76,11 @@ impl View {
 }
 
 impl Notes {
-    /// No notes yet. They are to tell of the first steps, at most so many.
-    pub fn new(alloc: Global, most: u32) -> Notes {
+    /// No notes yet. They are to tell of the steps after so many, up to the last one.
+    pub fn new(alloc: Global, skipped: u32, last: u32) -> Notes {
         Notes {
-            most,
+            skipped,
+            last,
             steps: 0,
             states: Json::new(alloc, MOST_NOTES),
             blocks: Json::new(alloc, MOST_NOTES),
@@ -90,6 +92,11 @@ impl Notes {
                 View::new(alloc),
             ],
         }
+    }
+
+    /// How many steps precede the first one that is noted.
+    pub(crate) fn skipped(&self) -> u32 {
+        self.skipped
     }
 
     /// The states before each step.
@@ -105,7 +112,7 @@ impl Notes {
     /// Notes the registers: pc, words, counters, names in slots, and pointers.
     fn note_state(&mut self, machine: &Machine, pc: u16) {
         let out = &mut self.states;
-        if self.steps > 0 {
+        if !out.values().is_empty() {
             out.put(b",\n");
         }
         out.put(b"[");
@@ -154,15 +161,17 @@ impl Notes {
 
 impl Watch for Notes {
     fn sees<D: Device + Drop>(&mut self, machine: &Machine, pc: u16, kernel: &Kernel<D>) {
-        if self.steps >= self.most {
+        if self.steps >= self.last {
             return;
         }
-        self.note_state(machine, pc);
-        let [s0, s1, s2, s3] = *machine.slots();
-        self.note_block(0, s0, kernel);
-        self.note_block(1, s1, kernel);
-        self.note_block(2, s2, kernel);
-        self.note_block(3, s3, kernel);
+        if self.steps >= self.skipped {
+            self.note_state(machine, pc);
+            let [s0, s1, s2, s3] = *machine.slots();
+            self.note_block(0, s0, kernel);
+            self.note_block(1, s1, kernel);
+            self.note_block(2, s2, kernel);
+            self.note_block(3, s3, kernel);
+        }
         self.steps = self.steps.saturating_add(1);
     }
 }

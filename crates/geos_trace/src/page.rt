@@ -62,7 +62,7 @@ fn put_output(out: &mut Json, outcome: &Outcome) {
     out.put(b"]");
 }
 
-/// All that is told beside the notes, up to the last member.
+/// Writes all members that come before the notes.
 fn put_told(out: &mut Json, told: &Told<'_>, outcome: &Outcome) {
     out.put(b"{\"form\":1");
     put_string_member(out, ",\n\"file\":", told.file.as_bytes());
@@ -83,6 +83,7 @@ fn is_cut(json: &Json) -> &'static [u8] {
 /// Appends the notes, and whether some were left out.
 fn put_notes(out: &mut Json, notes: &Notes) {
     let (states, blocks) = (notes.states(), notes.blocks());
+    put_number_member(out, ",\n\"skipped\":", u64::from(notes.skipped()));
     out.put(b",\n\"states_cut\":");
     out.put(is_cut(states));
     out.put(b",\n\"blocks_cut\":");

@@ -11,14 +11,14 @@ pub(crate) const BEFORE_RUN: &str = "<!DOCTYPE html>
 <title>A run</title>
 <style>
 :root {
-  --ink: #1b2130; --soft: #5c6473; --faint: #8b93a3; --line: #d7dce5; --paper: #f6f7fa; --card: #fff; --wash: #eef1f6;
+  --ink: #1b2130; --soft: #5c6473; --faint: #7d8595; --line: #d7dce5; --paper: #f6f7fa; --card: #fff; --wash: #eef1f6;
   --blue: #1f55c4; --blue-wash: #e4ecfc; --good: #11743f; --good-wash: #def3e7; --bad: #b92828; --bad-wash: #fde7e7;
   --warm: #8f5600; --warm-wash: #fff1cf; --vm: #6f45bd; --vm-wash: #efe7fc; --chunk: 90%; --chunk-line: 42%;
   --mono: ui-monospace, \"SF Mono\", \"DejaVu Sans Mono\", Menlo, Consolas, monospace;
 }
 @media (prefers-color-scheme: dark) {
   :root {
-    --ink: #e6e9f0; --soft: #a3abbb; --faint: #7d8697; --line: #343b4a; --paper: #12151c; --card: #1a1f2a; --wash: #232a37;
+    --ink: #e6e9f0; --soft: #a3abbb; --faint: #8a93a4; --line: #343b4a; --paper: #12151c; --card: #1a1f2a; --wash: #232a37;
     --blue: #7fa8ff; --blue-wash: #1d2f57; --good: #5fd396; --good-wash: #143524; --bad: #ff8a8a; --bad-wash: #46201f;
     --warm: #f0bd5b; --warm-wash: #463512; --vm: #c0a0ff; --vm-wash: #33264f; --chunk: 24%; --chunk-line: 62%;
   }
@@ -30,14 +30,41 @@ h1 { font: 600 20px/1.3 var(--mono); margin: 0; overflow-wrap: anywhere; }
 h2 { font-size: 12px; margin: 16px 0 6px; text-transform: uppercase; letter-spacing: .08em; color: var(--soft); }
 h2 small { text-transform: none; letter-spacing: 0; font-weight: 400; }
 p { margin: 0; }
+a { color: var(--blue); }
 #about, footer { color: var(--soft); overflow-wrap: anywhere; }
 footer { margin-top: 20px; font-size: 12.5px; }
+:focus-visible { outline: 2px solid var(--blue); outline-offset: 2px; }
+.comment { color: var(--faint); }
+.tag { display: inline-block; font: 11.5px/1.6 var(--mono); padding: 0 8px; border-radius: 10px; background: var(--wash); color: var(--soft); margin: 0 5px 4px 0; }
+.tag.held { background: var(--blue-wash); color: var(--blue); }
+.tag.news { background: var(--warm-wash); color: var(--warm); }
+.chunk { margin: 8px 0 0; border-left: 5px solid var(--hue); padding-left: 9px; }
+.chunk h3 { margin: 0 0 2px; font: 600 12.5px/1.6 var(--mono); }
+.chunk h3 small { font-weight: 400; color: var(--soft); font-size: 11.5px; margin-left: 6px; }
+.bytes { font: 12.5px/19px var(--mono); border-collapse: collapse; }
+.bytes th { font-weight: 400; color: var(--faint); text-align: right; padding: 0 10px 0 0; }
+.bytes td { padding: 0 2.5px; white-space: pre; border-bottom: 2px solid transparent; }
+.bytes .zero { color: var(--faint); }
+.bytes .ascii { padding-left: 14px; color: var(--soft); letter-spacing: .12em; }
+.bytes .changed { background: var(--warm-wash); color: var(--warm); font-weight: 700; }
+.quiet { color: var(--soft); }
+@media (max-width: 900px) { body { padding: 0 8px 12px; } }
+@media (max-width: 480px) {
+  h1 { font-size: 16px; }
+  .bytes { font-size: 11.5px; }
+  .bytes td { padding: 0 1px; }
+  .bytes .ascii { padding-left: 6px; letter-spacing: 0; }
+  .bytes th { padding-right: 5px; }
+}
+@media print {
+  body { background: #fff; max-width: none; }
+  * { print-color-adjust: exact; }
+}
 nav { position: sticky; top: 0; z-index: 5; display: grid; grid-template-columns: auto 1fr auto; gap: 4px 12px; align-items: center; padding: 8px 12px; background: var(--card); border: 1px solid var(--line); border-radius: 10px; box-shadow: 0 2px 10px #0001; }
 #buttons { display: flex; gap: 4px; }
 button { font: inherit; color: inherit; background: var(--card); border: 1px solid var(--line); border-radius: 7px; padding: 3px 10px; min-height: 30px; cursor: pointer; }
 button:hover { background: var(--wash); }
 button:disabled { opacity: .4; cursor: default; }
-:focus-visible { outline: 2px solid var(--blue); outline-offset: 2px; }
 #play { background: var(--blue); border-color: var(--blue); color: var(--card); font-weight: 600; min-width: 84px; }
 #slider { width: 100%; accent-color: var(--blue); }
 #where { font: 12.5px var(--mono); color: var(--soft); white-space: nowrap; }
@@ -51,6 +78,7 @@ main { display: grid; grid-template-columns: minmax(0, 9fr) minmax(0, 10fr); gap
 #lines li { display: grid; grid-template-columns: 44px minmax(0, 10fr) minmax(0, 9fr); position: relative; min-height: 20px; }
 #lines .n { color: var(--faint); text-align: right; padding-right: 10px; user-select: none; }
 #lines .code { white-space: pre-wrap; overflow-wrap: anywhere; tab-size: 8; }
+#lines .plain .code { grid-column: 2 / -1; }
 #lines .comment { color: var(--faint); }
 #lines .known { color: var(--soft); font-size: 11.5px; padding: 0 8px; overflow: hidden; text-overflow: ellipsis; white-space: nowrap; }
 #lines .now .known { white-space: normal; overflow-wrap: anywhere; }
@@ -100,26 +128,12 @@ main { display: grid; grid-template-columns: minmax(0, 9fr) minmax(0, 10fr); gap
 #tabs [aria-selected=\"true\"] { border-color: var(--blue); box-shadow: inset 0 -2px var(--blue); }
 #tabs .free { opacity: .6; }
 #block { background: var(--card); border: 1px solid var(--line); border-radius: 10px; padding: 8px 12px; margin-top: 6px; }
-.tag { display: inline-block; font: 11.5px/1.6 var(--mono); padding: 0 8px; border-radius: 10px; background: var(--wash); color: var(--soft); margin: 0 5px 4px 0; }
-.tag.held { background: var(--blue-wash); color: var(--blue); }
-.tag.news { background: var(--warm-wash); color: var(--warm); }
-.chunk { margin: 8px 0 0; border-left: 5px solid var(--hue); padding-left: 9px; }
-.chunk h3 { margin: 0 0 2px; font: 600 12.5px/1.6 var(--mono); }
-.chunk h3 small { font-weight: 400; color: var(--soft); font-size: 11.5px; margin-left: 6px; }
-.bytes { font: 12.5px/19px var(--mono); border-collapse: collapse; }
-.bytes th { font-weight: 400; color: var(--faint); text-align: right; padding: 0 10px 0 0; }
-.bytes td { padding: 0 2.5px; white-space: pre; border-bottom: 2px solid transparent; }
-.bytes .zero { color: var(--faint); }
-.bytes .ascii { padding-left: 14px; color: var(--soft); letter-spacing: .12em; }
-.bytes .changed { background: var(--warm-wash); color: var(--warm); font-weight: 700; }
 .bytes .at { border-bottom-color: var(--good); }
 .bytes .touch { outline: 2px solid var(--warm); }
-.quiet { color: var(--soft); }
 #output { font: 14px/1.6 var(--mono); overflow-wrap: anywhere; }
 #output span { background: var(--wash); border-radius: 5px; padding: 1px 7px; margin-right: 5px; display: inline-block; margin-bottom: 4px; }
 #output .changed { background: var(--warm-wash); color: var(--warm); font-weight: 700; }
 @media (max-width: 900px) {
-  body { padding: 0 8px 12px; }
   main { display: block; }
   nav { grid-template-columns: 1fr auto; padding: 6px 8px; }
   #slider { grid-column: 1 / -1; grid-row: 2; }
@@ -131,22 +145,13 @@ main { display: grid; grid-template-columns: minmax(0, 9fr) minmax(0, 10fr); gap
   button { padding: 3px 8px; }
   #play { min-width: 0; }
 }
-@media (max-width: 480px) {
-  h1 { font-size: 16px; }
-  .bytes { font-size: 11.5px; }
-  .bytes td { padding: 0 1px; }
-  .bytes .ascii { padding-left: 6px; letter-spacing: 0; }
-  .bytes th { padding-right: 5px; }
-}
 @media (prefers-reduced-motion: reduce) { .move { transition: none; } }
 @media print {
-  body { background: #fff; max-width: none; }
   nav { position: static; box-shadow: none; }
   #buttons, #slider { display: none; }
   #lines { max-height: none; }
   #text { position: static; }
   #lines, #block, #region, .set div { break-inside: avoid; }
-  * { print-color-adjust: exact; }
 }
 </style>
 </head>

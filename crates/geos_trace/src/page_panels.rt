@@ -3,20 +3,6 @@
 /// The rest of the page.
 pub(crate) const PANELS: &str = "// Registers, the bytes of a block, and the text.
 
-const $ = (id) => document.getElementById(id);
-
-function node(tag, attributes = {}, ...inside) {
-  const made = document.createElement(tag);
-  for (const [name, value] of Object.entries(attributes)) {
-    if (value !== false && value !== undefined) made.setAttribute(name, value === true ? \"\" : value);
-  }
-  made.append(...inside.filter((part) => part !== null && part !== undefined && part !== false));
-  return made;
-}
-
-const times = (n) => n === 1 ? \"once\" : n === 2 ? \"twice\" : n + \" times\";
-const hex4 = (n) => \"0x\" + n.toString(16).padStart(4, \"0\");
-
 function register(name, kind, value, small) {
   return node(\"div\", { class: kind, \"data-register\": name }, node(\"b\", {}, name), value, small ? node(\"small\", {}, small) : null);
 }
@@ -62,40 +48,6 @@ function show_registers(run, place) {
   );
 }
 
-// The most bytes of a chunk that are drawn.
-const MOST_DRAWN = 1024;
-const per_row = () => window.innerWidth < 560 ? 8 : 16;
-const letter_of = (byte) => byte >= 32 && byte < 127 ? String.fromCharCode(byte) : \"\\u00b7\";
-const bytes_of = (hex) => (hex.match(/../g) || []).slice(0, MOST_DRAWN).map((pair) => parseInt(pair, 16));
-
-// A row of bytes, in hexadecimal digits and as text.
-function byte_row(bytes, from, count, kind_of) {
-  const cells = [node(\"th\", { scope: \"row\" }, String(from))];
-  for (let i = from; i < from + count; i++) {
-    const is_there = i < bytes.length;
-    cells.push(node(\"td\", { class: is_there ? kind_of(i) : false }, is_there ? bytes[i].toString(16).padStart(2, \"0\") : \"  \"));
-  }
-  const letters = bytes.slice(from, from + count).map(letter_of).join(\"\");
-  return node(\"tr\", {}, ...cells, node(\"td\", { class: \"ascii\" }, letters));
-}
-
-// The rows of bytes; of rows of zeros that did not change only the first one.
-function byte_rows(bytes, kind_of) {
-  const rows = [];
-  const wide = per_row();
-  const is_plain = (i) => bytes[i] === 0 && !/changed/.test(kind_of(i));
-  for (let from = 0; from < bytes.length; from += wide) {
-    rows.push(byte_row(bytes, from, wide, kind_of));
-    let end = from;
-    while (end < bytes.length && is_plain(end)) end++;
-    const more = Math.floor((end - from) / wide) - 1;
-    if (more < 2) continue;
-    rows.push(node(\"tr\", {}, node(\"th\", {}, \"\\u22ee\"), node(\"td\", { class: \"quiet\", colspan: wide + 1 }, `${more * wide} more zero bytes`)));
-    from += more * wide;
-  }
-  return rows;
-}
-
 function chunk_panel(run, block, was, c, place) {
   const old = was?.chunks.find((o) => o.chunk === c.chunk);
   const [bytes, before] = [bytes_of(c.hex), old ? bytes_of(old.hex) : []];
@@ -138,23 +90,12 @@ function show_tabs(run, place, chosen, choose) {
   $(\"tabs\").replaceChildren(...tabs);
 }
 
-// The code of a line, with its comment apart.
-function code_of(code) {
-  const at = code.indexOf(\";\");
-  const parts = at < 0 ? [shown(code)] : [shown(code.slice(0, at)), node(\"span\", { class: \"comment\" }, shown(code.slice(at)))];
-  return node(\"span\", { class: \"code\" }, ...parts);
-}
-
-function known_of(known) {
-  const parts = known.split(/([sp]\\d=[^ ,]+)/).map((part) => /^[sp]\\d=/.test(part) ? node(\"span\", { class: part[0] }, part) : part);
-  return node(\"span\", { class: \"known\" }, ...parts);
-}
-
 function make_lines(run, go_to_line) {
   const rows = run.lines.map((line, row) => {
     const can = run.places[row].length > 0;
-    const item = node(\"li\", { class: can ? \"can\" : false, title: can ? `runs ${times(run.places[row].length)}` : undefined },
-      node(\"span\", { class: \"n\" }, line.number), code_of(line.code), known_of(line.known));
+    const kinds = [can && \"can\", !line.known && \"plain\"].filter((kind) => kind).join(\" \");
+    const item = node(\"li\", { class: kinds || false, title: can ? `runs ${times(run.places[row].length)}` : undefined },
+      node(\"span\", { class: \"n\" }, line.number), code_of(line.code), line.known ? known_of(line.known) : null);
     if (can) item.addEventListener(\"click\", () => go_to_line(row));
     return item;
   });
@@ -175,6 +116,7 @@ class Player {
     this.region = new Region(run, (key) => this.choose(key));
     this.marked = [];
     this.head();
+    if (!run.states.length) return;
     this.listen();
     this.go(this.place_in_address());
   }
@@ -186,7 +128,9 @@ class Player {
     $(\"about\").textContent = `${run.file} \\u00b7 ${run.data.steps} steps of a budget of ${run.data.budget}`;
     $(\"slider\").max = run.last;
     const cuts = [];
-    if (!run.whole) cuts.push(`The page shows the first ${run.states.length} of ${run.data.steps} steps.`);
+    const last = run.skipped + run.states.length;
+    if (!run.states.length) cuts.push(`The page shows no step: the run has ${run.data.steps}.`);
+    else if (last < run.data.steps || run.skipped) cuts.push(`The page shows steps ${run.skipped + 1} to ${last} of ${run.data.steps}: \\`geos trace --steps A..B\\` chooses others.`);
     if (run.data.blocks_cut) cuts.push(\"Notes of blocks were too long: those of later steps are left out.\");
     $(\"cut\").textContent = cuts.join(\" \");
     $(\"cut\").hidden = !cuts.length;
@@ -230,7 +174,7 @@ class Player {
   // The place in the address, as #step=5.
   place_in_address() {
     const found = /^#step=(\\d+)$/.exec(location.hash);
-    return found ? +found[1] : 0;
+    return found ? +found[1] - this.run.skipped : 0;
   }
 
   // To the next step at a line, or else to the first one.
@@ -285,7 +229,7 @@ class Player {
   show() {
     const { run, place } = this;
     $(\"slider\").value = place;
-    $(\"where\").textContent = `step ${place} of ${run.data.steps}`;
+    $(\"where\").textContent = `step ${run.skipped + place} of ${run.data.steps}`;
     $(\"slider\").setAttribute(\"aria-valuetext\", $(\"where\").textContent);
     for (const id of [\"first\", \"back\"]) $(id).disabled = place === 0;
     for (const id of [\"on\", \"last\"]) $(id).disabled = place === run.last;
@@ -303,7 +247,7 @@ class Player {
   show_done() {
     const { run, place } = this;
     const step = place ? run.steps[place - 1] : null;
-    const parts = step ? [`${step.number}: ${step.code} `, node(\"b\", {}, step.did)] : [\"At the start. \"];
+    const parts = step ? [`${step.number}: ${step.code} `, node(\"b\", {}, step.did)] : [run.skipped ? `After ${run.skipped} steps. ` : \"At the start. \"];
     const moved = run.blocks_at(place).filter((b) => this.has_moved(b));
     if (moved.length) parts.push(node(\"i\", {}, ` \\u2013 ${moved.map((b) => b.key).join(\", \")} moved`));
     const stale = run.targets[place].map((t, n) => t && t.stale === place ? \"p\" + n : null).filter((name) => name);
@@ -343,7 +287,7 @@ class Player {
   show_commits() {
     const commits = this.run.commits.filter((commit) => commit.place <= this.place);
     $(\"commits-section\").hidden = !this.run.commits.length;
-    $(\"commits\").replaceChildren(...commits.map((c) => node(\"span\", { class: \"tag\" + (c.place === this.place ? \" news\" : \"\") }, `step ${c.place}: ${c.said}`)));
+    $(\"commits\").replaceChildren(...commits.map((c) => node(\"span\", { class: \"tag\" + (c.place === this.place ? \" news\" : \"\") }, `step ${this.run.skipped + c.place}: ${c.said}`)));
     if (!commits.length) $(\"commits\").append(node(\"span\", { class: \"quiet\" }, \"nothing yet\"));
   }
 
@@ -351,7 +295,7 @@ class Player {
     const { run, place } = this;
     const count = run.outputs[Math.min(place, run.outputs.length - 1)];
     const is_new = place > 0 && run.outputs[place - 1] < count;
-    const words = run.data.output.slice(0, count).map((word, n) => node(\"span\", { class: is_new && n === count - 1 ? \"changed\" : false, title: hex4(word) }, String(word)));
+    const words = run.words.slice(0, count).map((word, n) => node(\"span\", { class: is_new && n === count - 1 ? \"changed\" : false, title: hex4(word) }, String(word)));
     $(\"output\").replaceChildren(...(words.length ? words : [node(\"i\", { class: \"quiet\" }, \"nothing yet\")]));
   }
 }

@@ -4,19 +4,36 @@
 pub(crate) const AFTER_RUN: &str = "</script>
 <script>
 \"use strict\";
-// The run: what the program noted, and what follows from it at each place. Place n is before step n + 1.
+// Elements, pictures and numbers.
 
-// Strings of the run have a character for each byte.
-const text_of = (bytes) => new TextDecoder().decode(Uint8Array.from(bytes, (c) => c.charCodeAt(0)));
+const $ = (id) => document.getElementById(id);
+
+function node(tag, attributes = {}, ...inside) {
+  const made = document.createElement(tag);
+  for (const [name, value] of Object.entries(attributes)) {
+    if (value !== false && value !== undefined) made.setAttribute(name, value === true ? \"\" : value);
+  }
+  made.append(...inside.filter((part) => part !== null && part !== undefined && part !== false));
+  return made;
+}
+
+const times = (n) => n === 1 ? \"once\" : n === 2 ? \"twice\" : n + \" times\";
+const hex4 = (n) => \"0x\" + n.toString(16).padStart(4, \"0\");
+
+const SVG = \"http://www.w3.org/2000/svg\";
+
+function draw(tag, attributes = {}, ...inside) {
+  const node = document.createElementNS(SVG, tag);
+  for (const [name, value] of Object.entries(attributes)) node.setAttribute(name, value);
+  node.append(...inside);
+  return node;
+}
+
 // Control characters are shown as their pictures.
 const shown = (text) => text.replace(/[\\0-\\x08\\x0b-\\x1f]/g, (c) => String.fromCharCode(0x2400 + c.charCodeAt(0))).replace(/\\x7f/g, \"\\u2421\");
 const lines_of = (text) => text.replace(/\\n$/, \"\").split(\"\\n\");
 
-// What instructions on the VM file do.
-const COMMITS = { VUPDATE: \"current area committed\", VSAVE: \"saved area committed\", VREVERT: \"back to the saved area\", VDIRTY: \"block marked as changed\", IDIRTY: \"group marked as changed\" };
-
-const OWNERS = [\"block\", \"file block\"];
-const key_of = (owner, handle) => OWNERS[owner] + \" \" + handle;
+// Lines of a text, with what is known there.
 
 // A line of `geos explain`: its number, its text, and what is known there.
 function explained_line(line) {
@@ -24,6 +41,69 @@ function explained_line(line) {
   const known = / ; ([^;]*\\bsteps?)$/.exec(rest);
   return { number, code: known ? rest.slice(0, known.index) : rest, known: known ? known[1] : \"\" };
 }
+
+// The code of a line, with its comment apart.
+function code_of(code) {
+  const at = code.indexOf(\";\");
+  const parts = at < 0 ? [shown(code)] : [shown(code.slice(0, at)), node(\"span\", { class: \"comment\" }, shown(code.slice(at)))];
+  return node(\"span\", { class: \"code\" }, ...parts);
+}
+
+function known_of(known) {
+  const parts = known.split(/([sp]\\d=[^ ,]+)/).map((part) => /^[sp]\\d=/.test(part) ? node(\"span\", { class: part[0] }, part) : part);
+  return node(\"span\", { class: \"known\" }, ...parts);
+}
+
+// Bytes of chunks, and their colours.
+
+// The most bytes of a chunk that are drawn.
+const MOST_DRAWN = 1024;
+const per_row = () => window.innerWidth < 560 ? 8 : 16;
+const letter_of = (byte) => byte >= 32 && byte < 127 ? String.fromCharCode(byte) : \"\\u00b7\";
+const bytes_of = (hex) => (hex.match(/../g) || []).slice(0, MOST_DRAWN).map((pair) => parseInt(pair, 16));
+
+// A row of bytes, in hexadecimal digits and as text.
+function byte_row(bytes, from, count, kind_of) {
+  const cells = [node(\"th\", { scope: \"row\" }, String(from))];
+  for (let i = from; i < from + count; i++) {
+    const is_there = i < bytes.length;
+    cells.push(node(\"td\", { class: is_there ? kind_of(i) : false }, is_there ? bytes[i].toString(16).padStart(2, \"0\") : \"  \"));
+  }
+  const letters = bytes.slice(from, from + count).map(letter_of).join(\"\");
+  return node(\"tr\", {}, ...cells, node(\"td\", { class: \"ascii\" }, letters));
+}
+
+// The rows of bytes; of rows of zeros that did not change only the first one.
+function byte_rows(bytes, kind_of) {
+  const rows = [];
+  const wide = per_row();
+  const is_plain = (i) => bytes[i] === 0 && !/changed/.test(kind_of(i));
+  for (let from = 0; from < bytes.length; from += wide) {
+    rows.push(byte_row(bytes, from, wide, kind_of));
+    let end = from;
+    while (end < bytes.length && is_plain(end)) end++;
+    const more = Math.floor((end - from) / wide) - 1;
+    if (more < 2) continue;
+    rows.push(node(\"tr\", {}, node(\"th\", {}, \"\\u22ee\"), node(\"td\", { class: \"quiet\", colspan: wide + 1 }, `${more * wide} more zero bytes`)));
+    from += more * wide;
+  }
+  return rows;
+}
+
+const hue_of = (chunk) => ((chunk - 16) / 2 * 67 + 210) % 360;
+const fill_of = (chunk) => `hsl(${hue_of(chunk)} 65% var(--chunk))`;
+const line_of = (chunk) => `hsl(${hue_of(chunk)} 50% var(--chunk-line))`;
+
+// The run: what the program noted, and what follows from it at each place. Place n is before step n + 1.
+
+// Strings of the run have a character for each byte.
+const text_of = (bytes) => new TextDecoder().decode(Uint8Array.from(bytes, (c) => c.charCodeAt(0)));
+
+// What instructions on the VM file do.
+const COMMITS = { VUPDATE: \"current area committed\", VSAVE: \"saved area committed\", VREVERT: \"back to the saved area\", VDIRTY: \"block marked as changed\", IDIRTY: \"group marked as changed\" };
+
+const OWNERS = [\"block\", \"file block\"];
+const key_of = (owner, handle) => OWNERS[owner] + \" \" + handle;
 
 // A line of `geos trace`: the line of the text, the instruction, and what it did.
 function traced_line(line) {
@@ -49,15 +129,16 @@ function block_of([, owner, handle, locks, marked, chunks]) {
   return { key: key_of(owner, handle), vm: owner === 1, handle, locks, marked, chunks: list, from, to, placed: list.length > 0 };
 }
 
-// For each block the places at which it changed, and how.
-function histories(rows) {
+// For each block the places at which it changed, and how. Rows have the numbers of steps.
+function histories(rows, skipped) {
   const all = new Map();
   for (const row of rows) {
     const block = block_of(row);
     if (!all.has(block.key)) all.set(block.key, []);
     const history = all.get(block.key);
-    if (history.length && history[history.length - 1].place === row[0]) history.pop();
-    history.push({ place: row[0], block });
+    const place = row[0] - skipped;
+    if (history.length && history[history.length - 1].place === place) history.pop();
+    history.push({ place, block });
   }
   return all;
 }
@@ -81,11 +162,14 @@ class Run {
     this.lines = lines_of(text_of(data.explained)).map(explained_line);
     this.steps = lines_of(text_of(data.traced)).slice(0, -1).map(traced_line).slice(0, data.states.length);
     this.states = data.states.map(state_of);
-    this.blocks = histories(data.blocks);
+    this.skipped = data.skipped;
+    this.blocks = histories(data.blocks, this.skipped);
     // A run that is told to its end has one more place, where nothing is left to do.
-    this.whole = this.states.length === data.steps;
+    this.whole = this.skipped + this.states.length === data.steps;
     this.last = Math.max(0, this.whole ? this.states.length : this.states.length - 1);
     this.outputs = this.output_counts();
+    // Words that were output before the first step here are not among them.
+    this.words = this.skipped ? this.steps.filter((step) => step.did.startsWith(\"out \")).map((step) => +step.did.slice(4)) : data.output;
     this.find_lines();
     this.targets = this.pointer_targets();
     this.commits = this.file_changes();
@@ -159,7 +243,7 @@ class Run {
 
   // What each pointer was set to: at each place four targets, or null.
   pointer_targets() {
-    const all = [[null, null, null, null]];
+    const all = [[0, 1, 2, 3].map((pointer) => this.first_target(pointer))];
     this.steps.forEach((step, n) => {
       const after = all[n].map((target, p) => this.checked_target(target, p, n + 1));
       const set = /\\bp(\\d)=(?:p(\\d)|(?:(element \\d+) of )?(chunk|item) (\\d+) of s(\\d))/.exec(step.did);
@@ -167,6 +251,16 @@ class Run {
       all.push(after);
     });
     return all;
+  }
+
+  // What a pointer was set to before the first step here, if the verifier knows it.
+  first_target(pointer) {
+    const found = this.skipped ? new RegExp(\"\\\\bp\" + pointer + \"=s(\\\\d)\").exec(this.known(0)) : null;
+    if (!found || !this.states.length) return null;
+    const { at, len } = this.state(0).spans[pointer];
+    const key = this.state(0).slots[found[1]];
+    const chunk = this.block(key, 0)?.chunks.find((c) => c.at <= at && at + len <= c.at + c.len);
+    return chunk ? { key, chunk: chunk.chunk, element: undefined, at, len, offset: at - chunk.at, set: 0, stale: 0 } : null;
   }
 
   new_target([, pointer, , element, , chunk, slot], place) {
@@ -193,21 +287,11 @@ class Run {
 
 // The picture of the region: chunks at their places, frames around the chunks of a block, and pointers.
 
-const SVG = \"http://www.w3.org/2000/svg\";
 // As wide as it is shown, so that letters keep their size.
 const WIDTH = window.innerWidth < 900 ? Math.max(320, window.innerWidth - 30) : Math.min(1000, window.innerWidth / 2);
 const [TOP, HIGH, EDGE] = [40, 40, 14];
-
-function draw(tag, attributes = {}, ...inside) {
-  const node = document.createElementNS(SVG, tag);
-  for (const [name, value] of Object.entries(attributes)) node.setAttribute(name, value);
-  node.append(...inside);
-  return node;
-}
-
-const hue_of = (chunk) => ((chunk - 16) / 2 * 67 + 210) % 360;
-const fill_of = (chunk) => `hsl(${hue_of(chunk)} 65% var(--chunk))`;
-const line_of = (chunk) => `hsl(${hue_of(chunk)} 50% var(--chunk-line))`;
+// The width of a letter of a frame's name.
+const LETTER = 8;
 
 class Region {
   constructor(run, choose) {
@@ -270,7 +354,8 @@ class Region {
     used.add(key);
   }
 
-  put_frame(block, chosen, slots, used) {
+  // A frame, with a name that fits into the room before the next frame.
+  put_frame(block, chosen, slots, room, used) {
     const group = this.piece(block.key, () => {
       const made = draw(\"g\", {}, draw(\"title\"), draw(\"rect\", { y: TOP, height: HIGH, rx: 4, x: -4 }), draw(\"text\", { y: TOP - 7, x: -3 }));
       made.addEventListener(\"click\", () => this.choose(block.key));
@@ -281,7 +366,8 @@ class Region {
     group.style.transform = `translate(${this.x(block.from)}px, 0)`;
     group.children[0].textContent = `${block.key}, ${block.locks ? \"locked \" + block.locks + \" times\" : \"not locked\"}`;
     group.children[1].setAttribute(\"width\", this.width(block.from, block.to) + 8);
-    group.children[2].textContent = [block.key, ...slots].join(\" \\u2190 \");
+    const names = [[block.key, ...slots].join(\" \\u2190 \"), block.key, \"\"];
+    group.children[2].textContent = names.find((name) => name.length * LETTER <= room);
     used.add(block.key);
   }
 
@@ -314,7 +400,9 @@ class Region {
     this.above.replaceChildren();
     for (const block of blocks) {
       for (const c of block.chunks) this.put_chunk(block, c, used);
-      this.put_frame(block, chosen, this.run.slots_of(block, place), used);
+      const next = blocks.map((other) => other.from).filter((from) => from > block.from);
+      const room = next.length ? this.x(Math.min(...next)) - this.x(block.from) - 4 : Infinity;
+      this.put_frame(block, chosen, this.run.slots_of(block, place), room, used);
       const was = place ? this.run.block(block.key, place - 1) : null;
       if (was?.placed && was.locks && (was.from !== block.from)) this.moved(was, block);
     }
