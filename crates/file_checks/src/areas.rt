@@ -37,8 +37,8 @@ fn put_handle_faults(report: &mut Report, subject: Subject, last: usize) {
     }
 }
 
-/// Reports what is wrong with the block at an offset, after the one with handle `last`, and returns where the next one begins. None if
-/// that cannot be known.
+/// Reports the faults of the block at an offset, after the block with handle
+/// `last`, and returns the offset of the next block. None if this cannot be known.
 fn put_entry_faults(
     report: &mut Report,
     bytes: &[u8],
@@ -123,7 +123,8 @@ fn put_map_faults(report: &mut Report, bytes: &[u8], saved: bool, from: usize, a
     }
 }
 
-/// Reports what is wrong with the directory at an offset, and returns where it ends. None if that cannot be known.
+/// Reports the faults of the directory at an offset, and returns
+/// the offset at which it ends. None if this cannot be known.
 fn put_directory_faults(
     report: &mut Report,
     bytes: &[u8],

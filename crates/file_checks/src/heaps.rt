@@ -16,7 +16,7 @@ const MOST_ENTRIES: usize = 32_752;
 /// The entry of a chunk of no byte.
 const NO_BYTE: usize = 0xffff;
 
-/// Where the table of a block ends.
+/// The offset at which the table of a block ends.
 pub(crate) fn table_end(block: &[u8]) -> usize
     ensures { result < 131088 }
 {
@@ -70,7 +70,7 @@ fn chunk_fault(block: &[u8], entry: usize) -> Option<&'static str> {
     None
 }
 
-/// Notes where a chunk begins, or reports that another one does.
+/// Records the offset at which a chunk begins, or reports that another one begins there.
 fn note_start(report: &mut Report, subject: Subject, starts: &mut [u16], chunk: u16, place: usize) {
     if place >= starts.len() {
         return;
@@ -90,8 +90,8 @@ fn note_start(report: &mut Report, subject: Subject, starts: &mut [u16], chunk: 
     )
 }
 
-/// Reports the entries of chunks that cannot lie there, and notes where the others begin: by each four bytes the handle of the chunk, or
-/// 0.
+/// Reports the entries of chunks that cannot lie at their offsets, and records
+/// where the others begin: for each four bytes the handle of the chunk, or 0.
 fn put_chunk_faults(report: &mut Report, subject: Subject, block: &[u8], starts: &mut [u16]) {
     for i in 0..word(block, 10).min(MOST_ENTRIES) {
         let chunk = (16 + 2 * i) as u16;

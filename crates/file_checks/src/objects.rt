@@ -2,7 +2,7 @@
 
 use geos_json::JsonLines;
 
-/// Appends an object for each line, an error in the file with the path, as docs/JSON.md says it.
+/// Appends an object for each line, an error in the file with the path, as docs/JSON.md describes it.
 pub fn put_objects(out: &mut JsonLines, path: &str, lines: &[u8]) {
     for line in lines.split(|byte| *byte == b'\n') {
         if line.is_empty() {

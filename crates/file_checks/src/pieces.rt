@@ -29,7 +29,7 @@ fn put_overlaps(report: &mut Report, subject: Subject, starts: &[u16], at: usize
     }
 }
 
-/// Where the next piece begins after bytes that are in none.
+/// The offset at which the next piece begins, after bytes that are in none.
 fn gap_end(starts: &[u16], at: usize, free: usize, len: usize) -> usize {
     for place in at / 4 + 1..PLACES {
         let here = 4 * place;
@@ -47,14 +47,14 @@ fn gap_end(starts: &[u16], at: usize, free: usize, len: usize) -> usize {
 #[derive(Drop)]
 struct Walk {
     at: usize,
-    /// Where the next free chunk begins, or 0.
+    /// The offset of the next free chunk, or 0.
     free: usize,
     /// The bytes of the free chunks before it.
     sum: usize,
 }
 
 impl Walk {
-    /// Passes the free chunk where the walk is, and reports what is wrong with it. False if the walk cannot continue.
+    /// Steps over the free chunk at the current offset, and reports its faults. False if the walk cannot continue.
     fn pass_free(&mut self, report: &mut Report, subject: Subject, block: &[u8]) -> bool {
         let (size, next) = (word(block, self.at), word(block, self.at.saturating_add(2)));
         let end = self.at.saturating_add(size);
@@ -92,7 +92,7 @@ impl Walk {
         self.at = end;
     }
 
-    /// Reports what the header says wrongly of the free chunks that were passed.
+    /// Reports the words of the header that do not match the free chunks of the walk.
     fn put_end_faults(&self, report: &mut Report, subject: Subject, block: &[u8]) {
         if self.free != 0 {
             report.put_of_block(

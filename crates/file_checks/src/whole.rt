@@ -94,7 +94,7 @@ fn lines_of<D: Device>(alloc: Global, device: &mut D, at: u64) -> Result<Vec<u8>
     }
 }
 
-/// What is said of a file whose first fault is at an offset.
+/// The report for a file whose first fault is at an offset.
 fn faulty<D: Device + Drop>(alloc: Global, mut device: D, at: u64) -> Unsound
     ensures { (read : Result File ℕ) → read ≡ Err at → IsRefused result.error read }
 {

@@ -34,7 +34,7 @@ pair_same a b c d cur saved =
     ap (λ (k : Contents). let x : Pair = record { cur = k; saved = b } in x) cur
     ∙ ap (λ (k : Contents). let x : Pair = record { cur = c; saved = k } in x) saved
 
--- an image that spells a file with this pair
+-- the bytes encode a file with this pair
 pub found_same : (old new : List ℕ) (f : File) (p : Pair) → file_at old ≡ Ok f → new ≡ old → f.pair ≡ p → found new ≡ Ok p
 found_same old new f p opened same pair =
     let F : File → Result Pair ℕ = λ g. Ok g.pair in

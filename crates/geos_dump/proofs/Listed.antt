@@ -18,7 +18,7 @@ get-listed [] i e lt = absurd (omega (arith, lt))
 get-listed (b ∷ bs) zero e lt = refl
 get-listed (b ∷ bs) (suc i) e lt = get-listed bs i e (omega (arith, lt))
 
--- each has a handle above the one that they are behind
+-- each block in the list has a higher handle than the one before the list
 above : (bs : List Block) (last i : ℕ) → are_entries last (map entry_of bs) ≡ true → i < length bs → last < (get_or bs i no_block).h
 above [] last i legal lt = absurd (omega (arith, lt))
 above (b ∷ bs) last zero legal lt = (let s = both (is_entry last (entry_of b)) (are_entries b.h (map entry_of bs)) legal in

@@ -19,7 +19,7 @@ module _ {D : Type 0} (medium : Medium D) where
     reads = reads_then medium a.device b.device c.device r.reads s.reads;
   }
 
--- a call behind others of which no failure was counted
+-- a call after others for which no failure was counted
 pub causes_then : {X : Type 0} (H K : Type 0) (before mid now : ℕ) (result : Result X DumpError) → mid ≡ before
     → (H → K) → Causes K mid now result → Causes H before now result
 causes_then H K before mid now (Ok x) same so cause = cause ∙ same

@@ -10,7 +10,7 @@ use Rattle.geos_dump.specs.Sides.{contents_on}
 abbrev pub copied : Side → Pair → Pair
 copied side p = record { cur = contents_on side p; saved = p.saved }
 
--- a copy is too big exactly if it takes more bytes than an area has; then the answer names how many it takes
+-- a copy is too big exactly if it takes more bytes than an area has; the error names how many it takes
 abbrev pub AnswersFit : {X : Type 0} → Result X CopyError → ℕ → ℕ → Type 0
 AnswersFit (Ok x) needed area = needed ≤ area
 AnswersFit (Err (TooBig n)) needed area = (n ≡ needed) × (area < needed)

@@ -26,7 +26,7 @@ directory_on Saved f = f.saved
 abbrev pub block_of : Entry → List Block → Block
 block_of e blocks = record { h = e.h; uid = e.uid; bytes = bytes_of_block blocks e.h }
 
--- what stands for a block where there is none
+-- the default for a block that does not exist
 abbrev pub no_block : Block
 no_block = record { h = 0; uid = 0; bytes = [] }
 
@@ -36,13 +36,14 @@ pub record IsEntryOf (d : Directory) (blocks : List Block) (i : ℕ) (e : Entry)
   pub size : e.len ≤ most_block_bytes
   pub is : block_of e blocks ≡ slice_index_or blocks i no_block
 
--- a file that was only read: it is what it was but for its device, keeps the same pair, and nothing was written
+-- a file that was only read: only its device may differ, it has the same pair, and nothing was written
 pub record IsOnlyRead {D : Type 0} (medium : Medium D) (old new : FileState D) : Type 0 where
   pub same : new ≡ record old { device = new.device }
   pub pair : pair_of medium.image new ≡ pair_of medium.image old
   pub reads : ReadsOnly medium old.device new.device
 
--- on an honest device `Disk` comes only where a failure was counted; with any other answer none was
+-- on an honest device, the error `Disk` is returned only if a failure was counted; with any other result none was
+-- counted
 abbrev pub Causes : {X : Type 0} → Type 0 → ℕ → ℕ → Result X DumpError → Type 0
 Causes honest before now (Ok x) = now ≡ before
 Causes honest before now (Err Disk) = honest → Rose before now

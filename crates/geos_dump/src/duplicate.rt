@@ -18,7 +18,7 @@ use crate::spelling::spelled;
 use std::alloc::Global;
 use vm_file::{Device, Disk, OpenError, VmFile};
 
-/// Why a copy was not opened that was just written.
+/// The fault for a copy that could not be opened after it was written.
 fn fault_of(error: OpenError) -> Fault {
     match error {
         OpenError::Memory => Fault::Memory,

@@ -10,6 +10,9 @@ const DIGITS: [u8; 16] = *b"0123456789abcdef";
 /// The bytes of a line.
 const BYTES_IN_LINE: usize = 16;
 
+/// The bytes of a short line.
+const BYTES_IN_SHORT_LINE: usize = 8;
+
 /// The two digits of a byte.
 fn digits_of(byte: u8) -> [u8; 2] {
     [
@@ -35,9 +38,9 @@ fn cell_of(bytes: &[u8], k: usize) -> [u8; 2] {
     }
 }
 
-/// The columns of a line, and a blank.
-fn put_columns(out: &mut Text, bytes: &[u8]) {
-    for k in 0..BYTES_IN_LINE {
+/// The columns of a line of so many bytes, and a blank.
+fn put_columns(out: &mut Text, bytes: &[u8], most: usize) {
+    for k in 0..most {
         out.put_bytes(&cell_of(bytes, k));
         if k % 2 == 1 {
             out.put(" ");
@@ -55,18 +58,33 @@ fn shown(byte: u8) -> u8 {
     }
 }
 
-/// Bytes, sixteen in a line: the offset of the first, their digits, and the bytes as they are shown.
-pub(crate) fn put_hex_lines(out: &mut Text, bytes: &[u8])
+/// A line of at most so many bytes: the offset of the first, their digits, and the bytes as they are shown.
+fn put_hex_line(out: &mut Text, at: usize, bytes: &[u8], most: usize)
+    requires { at < 65536 }
+{
+    put_offset(out, at);
+    put_columns(out, bytes, most);
+    for byte in bytes {
+        out.put_bytes(&[shown(*byte)]);
+    }
+    out.put("\n");
+}
+
+/// Bytes, sixteen in a line, or eight in a short one.
+pub(crate) fn put_hex_lines(out: &mut Text, bytes: &[u8], short: bool)
     requires { length bytes.now < 65536 }
 {
     for k in 0..bytes.len().div_ceil(BYTES_IN_LINE) {
         let at = k * BYTES_IN_LINE;
         let line = &bytes[at..bytes.len().min(at + BYTES_IN_LINE)];
-        put_offset(out, at);
-        put_columns(out, line);
-        for byte in line {
-            out.put_bytes(&[shown(*byte)]);
+        if !short {
+            put_hex_line(out, at, line, BYTES_IN_LINE);
+            continue;
         }
-        out.put("\n");
+        let half = line.len().min(BYTES_IN_SHORT_LINE);
+        put_hex_line(out, at, &line[..half], BYTES_IN_SHORT_LINE);
+        if half < line.len() {
+            put_hex_line(out, at + half, &line[half..], BYTES_IN_SHORT_LINE);
+        }
     }
 }

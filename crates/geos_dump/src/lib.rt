@@ -22,6 +22,7 @@ mod sides;
 mod spelling;
 mod telling;
 mod text;
+mod view;
 
 pub use areas::{Areas, read_areas};
 pub use copy_error::CopyError;
@@ -31,4 +32,5 @@ pub use lines::saved_part;
 pub use merging::differences;
 pub use picture::{LEAST_WIDTH, map};
 pub use sides::Side;
-pub use text::{Detail, dump};
+pub use text::dump;
+pub use view::{Detail, View};

@@ -4,6 +4,7 @@ ghost use Rattle.std.specs.Prelude.{◌≡◌};
 ghost use Rattle.geos_terms.specs.Heap.{IsHeap};
 
 use crate::chunks::bytes_of;
+use crate::view::{Detail, View};
 use geos_json::JsonLines;
 use lmem_block::next;
 use sentence_text::Text;
@@ -49,20 +50,25 @@ fn put_lines(out: &mut Text, objects: JsonLines) {
     }
 }
 
-/// Appends a block or a group, and its chunks or items, with their bytes if those are requested.
-pub(crate) fn put_block_objects(out: &mut Text, side: &str, entry: Entry, block: &[u8], whole: bool)
+/// Appends a block or a group, and its chunks or items, with their bytes if those are requested; only a chunk or item if the view has one.
+pub(crate) fn put_block_objects(out: &mut Text, view: View, side: &str, entry: Entry, block: &[u8])
     requires { IsHeap block.now }
 {
+    let whole = matches!(view.detail, Detail::WholeObjects);
     let mut objects = JsonLines::new(*out.bytes.allocator());
-    objects.begin(if entry.uid == GROUP { "group" } else { "block" });
-    objects.text("directory", side.as_bytes());
-    objects.number("handle", u64::from(entry.h));
-    objects.number("uid", u64::from(entry.uid));
-    objects.number("size", block.len() as u64);
-    objects.end();
+    if view.chunk.is_none() {
+        objects.begin(if entry.uid == GROUP { "group" } else { "block" });
+        objects.text("directory", side.as_bytes());
+        objects.number("handle", u64::from(entry.h));
+        objects.number("uid", u64::from(entry.uid));
+        objects.number("size", block.len() as u64);
+        objects.end();
+    }
     let mut last = 0;
     while let Some(c) = next(block, last) {
-        put_chunk(&mut objects, side, entry, c, bytes_of(block, c), whole);
+        if view.has_chunk(c) {
+            put_chunk(&mut objects, side, entry, c, bytes_of(block, c), whole);
+        }
         last = c;
     }
     put_lines(out, objects)

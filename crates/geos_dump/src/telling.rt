@@ -8,7 +8,8 @@ ghost use Rattle.geos_dump.specs.Sides.{Causes, IsOnlyRead, directory_on};
 use crate::error::DumpError;
 use crate::picture::{Scale, put_columns_line, put_row, used_bytes};
 use crate::sides::{Listed, Side, count, directory, entry_at, read_block, word_of};
-use crate::text::{Detail, put_block_text, put_directory_text};
+use crate::text::{put_block_text, put_directory_text};
+use crate::view::View;
 use geos_terms::MOST_BLOCK_BYTES;
 use sentence_text::Text;
 use std::alloc::Global;
@@ -18,7 +19,7 @@ use vm_file::{Device, Directory, Entry, VmFile};
 #[derive(Clone, Copy)]
 pub(crate) enum Telling {
     /// The text of what it keeps.
-    Text(Detail),
+    Text(View),
     /// A picture of how full its blocks are.
     Picture(Scale),
 }
@@ -29,20 +30,34 @@ fn put_told(out: &mut Text, telling: Telling, word: &str, entry: Entry, bytes: &
     requires size { length bytes.now < 65536 }
 {
     match telling {
-        Telling::Text(detail) => put_block_text(out, detail, word, entry, bytes),
+        Telling::Text(view) => put_block_text(out, view, word, entry, bytes),
         Telling::Picture(scale) => put_row(out, entry, used_bytes(bytes), scale),
     }
 }
 
-/// What is printed before the blocks of a directory.
-fn put_head(out: &mut Text, telling: Telling, word: &str, directory: &Directory) {
+/// What is printed before the blocks of the directory on a side.
+fn put_head(out: &mut Text, telling: Telling, side: Side, directory: &Directory) {
+    let word = word_of(side);
     match telling {
-        Telling::Text(detail) => put_directory_text(out, detail, word, directory),
+        Telling::Text(view) => {
+            if view.has_directory(side) {
+                put_directory_text(out, view.detail, word, directory)
+            }
+        }
         Telling::Picture(_) => put_columns_line(out, word, directory),
     }
 }
 
-/// Reads a block, and tells of it.
+/// Whether a block is left out.
+fn omits(telling: Telling, block: Listed) -> bool {
+    match telling {
+        Telling::Text(view) => !view.has_block(block.side, block.entry.h),
+        Telling::Picture(_) => false,
+    }
+}
+
+/// Reads a block, and tells of it, unless it is left out.
+#[tactic(auto, using(crate::proofs::Looks::look_none))]
 fn put_block<D: Device + Drop>(
     out: &mut Text,
     telling: Telling,
@@ -55,6 +70,9 @@ fn put_block<D: Device + Drop>(
     ensures looks { IsOnlyRead D.medium file.old file.new }
     ensures cause { Causes (D.medium.honest file.old.device) (D.medium.failed file.old.device) (D.medium.failed file.new.device) result }
 {
+    if omits(telling, block) {
+        return Ok(());
+    }
     let Listed { side, entry } = block;
     let bytes = &mut buffer[..usize::from(entry.len)];
     read_block(file, side, entry.h, bytes)?;
@@ -93,7 +111,7 @@ fn put_directory<D: Device + Drop>(
     ensures looks { IsOnlyRead D.medium file.old file.new }
     ensures cause { Causes (D.medium.honest file.old.device) (D.medium.failed file.old.device) (D.medium.failed file.new.device) result }
 {
-    put_head(out, telling, word_of(side), directory(file, side));
+    put_head(out, telling, side, directory(file, side));
     put_blocks(out, telling, file, side, buffer)
 }
 

@@ -10,22 +10,10 @@ use crate::chunks::{put_chunk_dumps, put_chunks};
 use crate::error::DumpError;
 use crate::objects::{put_block_objects, put_map_object};
 use crate::telling::{Telling, put_directories};
+use crate::view::{Detail, View};
 use sentence_text::Text;
 use std::alloc::Global;
 use vm_file::{Device, Directory, Entry, VmFile};
-
-/// How much is printed of a block.
-#[derive(Clone, Copy)]
-pub enum Detail {
-    /// A line for each block.
-    Lines,
-    /// Below it the bytes of its chunks.
-    Bytes,
-    /// JSON objects: one for the block and one for each chunk.
-    Objects,
-    /// The same, and the bytes of its chunks.
-    WholeObjects,
-}
 
 /// The line of a block.
 fn put_block_line(out: &mut Text, entry: Entry, bytes: &[u8])
@@ -40,17 +28,20 @@ fn put_block_line(out: &mut Text, entry: Entry, bytes: &[u8])
 }
 
 /// What is printed of a block of the directory that the word names.
-pub(crate) fn put_block_text(out: &mut Text, detail: Detail, word: &str, entry: Entry, bytes: &[u8])
+pub(crate) fn put_block_text(out: &mut Text, view: View, word: &str, entry: Entry, bytes: &[u8])
     requires { IsHeap bytes.now }
 {
-    match detail {
+    match view.detail {
         Detail::Lines => put_block_line(out, entry, bytes),
-        Detail::Bytes => {
-            put_block_line(out, entry, bytes);
-            put_chunk_dumps(out, bytes)
+        Detail::Bytes | Detail::Elements => {
+            if view.chunk.is_none() {
+                put_block_line(out, entry, bytes);
+            }
+            put_chunk_dumps(out, view, bytes)
         }
-        Detail::Objects => put_block_objects(out, word, entry, bytes, false),
-        Detail::WholeObjects => put_block_objects(out, word, entry, bytes, true),
+        Detail::Objects | Detail::WholeObjects => {
+            put_block_objects(out, view, word, entry, bytes)
+        }
     }
 }
 
@@ -62,7 +53,9 @@ pub(crate) fn put_directory_text(
     directory: &Directory,
 ) {
     match detail {
-        Detail::Lines | Detail::Bytes => put_directory_line(out, word, directory),
+        Detail::Lines | Detail::Bytes | Detail::Elements => {
+            put_directory_line(out, word, directory)
+        }
         Detail::Objects | Detail::WholeObjects => put_map_object(out, word, directory),
     }
 }
@@ -79,7 +72,8 @@ pub(crate) fn put_directory_line(out: &mut Text, word: &str, directory: &Directo
 
 /// The text of a file's contents: for the current directory and for the saved one a line with its map block and its map item, and a line
 /// for each block with its handle, its user ID, its size in bytes, and the handles and lengths of its chunks. With `Detail::Bytes` the
-/// bytes of its chunks follow, as `xxd` prints them. `Detail::Objects` and `Detail::WholeObjects` are the same as JSON objects.
+/// bytes of its chunks follow, as `xxd` prints them, and with `Detail::Elements` those of an array element by element. `Detail::Objects` and
+/// `Detail::WholeObjects` are the same as JSON objects. Only the part that the view has is printed: nothing if it is not there.
 ///
 /// It reads each block once, through one buffer of the greatest block's size, and writes
 /// nothing. `Disk` if the device fails, or gives bytes that are no heap under the block's
@@ -87,7 +81,7 @@ pub(crate) fn put_directory_line(out: &mut Text, word: &str, directory: &Directo
 pub fn dump<D: Device + Drop>(
     alloc: Global,
     file: &mut VmFile<D>,
-    detail: Detail,
+    view: View,
 ) -> Result<Vec<u8>, DumpError>
     ensures same { file.new ≡ record file.old { device = file.new.device } }
     ensures pair { pair_of D.medium.image file.new ≡ pair_of D.medium.image file.old }
@@ -96,6 +90,6 @@ pub fn dump<D: Device + Drop>(
     ensures cause { Causes (D.medium.honest file.old.device) (D.medium.failed file.old.device) (D.medium.failed file.new.device) result }
 {
     let mut out = Text::new(alloc);
-    put_directories(alloc, &mut out, Telling::Text(detail), file)?;
+    put_directories(alloc, &mut out, Telling::Text(view), file)?;
     Ok(out.finish()?)
 }

@@ -2,7 +2,7 @@
 
 use crate::fault::FileFault;
 use crate::shown::text_of_file;
-use geos_dump::{Detail, DumpError, differences, saved_part};
+use geos_dump::{Detail, DumpError, View, differences, saved_part};
 use geos_shell::{DiffRequest, print};
 
 /// The part of a dump that is compared.
@@ -14,8 +14,15 @@ fn part_of(dump: &[u8], saved: bool) -> &[u8] {
 ///
 /// `FileFault::Differ` if something differs.
 pub fn compare_files<'a>(rt: &HostRuntime, files: &DiffRequest<'a>) -> Result<(), FileFault<'a>> {
-    let one = text_of_file(rt, files.one, Detail::Bytes)?;
-    let other = text_of_file(rt, files.other, Detail::Bytes)?;
+    let view = View {
+        detail: Detail::Bytes,
+        short: false,
+        side: None,
+        block: None,
+        chunk: None,
+    };
+    let one = text_of_file(rt, files.one, view)?;
+    let other = text_of_file(rt, files.other, view)?;
     let (left, right) = (part_of(&one, files.saved), part_of(&other, files.saved));
     match differences(rt.alloc(), left, right) {
         Ok(None) => Ok(()),

@@ -75,7 +75,7 @@ fn fill_copy<'a>(
     }
 }
 
-/// Copies a VM file to a new file. Nobody changes the file meanwhile. What is said of `make_file` holds for the new file.
+/// Copies a VM file to a new file, as `make_file` makes it. Nobody changes the old file meanwhile.
 ///
 /// `FileFault::AreaTooSmall` and `FileFault::NoArea` if the new areas have no room, otherwise the faults of `opened` and of `make_file`.
 pub fn copy_file<'a>(rt: &HostRuntime, paths: &CopyRequest<'a>) -> Result<(), FileFault<'a>>

@@ -22,6 +22,10 @@ pub enum FileFault<'a> {
     NoArea,
     /// The VM files with these paths differ.
     Differ(&'a str, &'a str),
+    /// The VM file with the path has no block with the handle.
+    NoBlock(&'a str, u16),
+    /// The VM file with the path has no block with the first handle in which a chunk has the second one.
+    NoChunk(&'a str, u16, u16),
     /// The VM file was not shown.
     Dump(DumpError),
 }
@@ -40,6 +44,10 @@ impl Display for FileFault<'_> {
             }
             FileFault::Differ(one, other) => {
                 write!(f, "{} and {} differ", Named(one), Named(other))
+            }
+            FileFault::NoBlock(path, h) => write!(f, "no block {h} in {}", Named(path)),
+            FileFault::NoChunk(path, h, c) => {
+                write!(f, "no chunk {c} in block {h} of {}", Named(path))
             }
             FileFault::Dump(error) => error.fmt(f),
         }

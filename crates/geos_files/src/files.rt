@@ -15,7 +15,7 @@ pub(crate) fn sized<'a>(path: &'a str, file: File, area: u32) -> Result<FileDevi
 {
     match FileDevice::of_length(file, device_length(area)) {
         Ok(device) => Ok(device),
-        Err(Disk) => Err(StreamFault::Write(path, Reason::Other)),
+        Err(Disk) => Err(StreamFault::Write(path, Reason::OTHER)),
     }
 }
 
@@ -75,7 +75,7 @@ pub fn wait_for<'a>(rt: &HostRuntime, file: Lockable<'a>) -> Result<Locked<'a>, 
     let lock = file.wait(rt)?;
     match FileDevice::of(lock.file()?) {
         Ok(device) => Ok(Locked { device, lock }),
-        Err(Disk) => Err(StreamFault::Read(lock.path(), Reason::Other)),
+        Err(Disk) => Err(StreamFault::Read(lock.path(), Reason::OTHER)),
     }
 }
 

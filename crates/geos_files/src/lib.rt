@@ -15,4 +15,4 @@ pub use compared::compare_files;
 pub use copies::copy_file;
 pub use fault::FileFault;
 pub use files::{Locked, lock_to_read, make_file, opened, wait_for};
-pub use shown::{draw_file, print_file};
+pub use shown::{draw_file, make_page, print_file};
