@@ -2,7 +2,7 @@
 use Rattle.std.specs.Prelude.{◌≡◌, ℕ, ◌≤◌, ◌%◌, IfSome}
 use Rattle.geos_shell.specs.declared.numbers.Number.{Number}
 use Rattle.geos_shell.specs.declared.request.FileRequest.{FileRequest}
-use Rattle.geos_shell.specs.declared.request.FileRequest.TheVariants.{New, Copy, Put, Get, Dump, Diff, Map}
+use Rattle.geos_shell.specs.declared.request.FileRequest.TheVariants.{New, Copy, Put, Get, Dump, Diff, Map, Page}
 use Rattle.geos_shell.specs.declared.request.Request.{Request}
 use Rattle.geos_shell.specs.declared.request.Request.TheVariants.{Routines, Test, Text, File, Serve}
 use Rattle.geos_shell.specs.declared.request.RoutineRequest.{RoutineRequest}
@@ -35,11 +35,12 @@ RunsWithinLimits (Run image file script region strict names form commit) = IsReg
 abbrev pub WorksWithinLimits : FileRequest → Type 0
 WorksWithinLimits (New file area) = IsArea area
 WorksWithinLimits (Copy copy) = IfSome copy.area IsArea
-WorksWithinLimits (Put chunk at region) = IsRegion region
+WorksWithinLimits (Put put) = IsRegion put.region
 WorksWithinLimits (Get chunk region) = IsRegion region
-WorksWithinLimits (Dump file chunks) = Unit {0}
+WorksWithinLimits (Dump dump) = Unit {0}
 WorksWithinLimits (Diff files) = Unit {0}
 WorksWithinLimits (Map file width) = IsWidth width
+WorksWithinLimits (Page paths) = Unit {0}
 
 -- each number of a request is
 abbrev pub KeepsLimits : Request → Type 0

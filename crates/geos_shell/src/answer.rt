@@ -3,7 +3,8 @@
 use crate::command_line::matches_of;
 use crate::faults::are_in_words;
 use crate::printable::Printable;
-use crate::streams::{StreamFault, print};
+use crate::streams::StreamFault;
+use crate::wrapping::print_text;
 use clap::Error;
 use clap::error::ErrorKind;
 use std::alloc::{AllocError, Global};
@@ -25,30 +26,27 @@ pub enum Answer {
     Memory,
 }
 
-/// The text without the tip to write `--` before a word that begins with `-`: no command takes such a word.
-fn without_tip(alloc: Global, text: String) -> Result<String, AllocError> {
-    match text.split_once("\n\n  tip: to pass '") {
-        Some((before, tip)) => {
-            let (_, after) = tip.split_once("\n\n").unwrap_or((tip, ""));
-            format!(in alloc; "{before}\n\n{after}")
-        }
-        None => Ok(text),
+/// What precedes and follows the tip to write `--` before a word that begins with `-`: no command takes such a word.
+fn without_tip(text: &str) -> (&str, &str) {
+    match text.split_once("\n  tip: to pass '") {
+        Some((before, tip)) => match tip.split_once('\n') {
+            Some((_, after)) => (before, after),
+            None => (before, ""),
+        },
+        None => (text, ""),
     }
 }
 
 impl Answer {
     /// What `clap` says of the words.
-    pub(crate) fn of(alloc: Global, error: &Error) -> Answer {
+    fn of(alloc: Global, error: &Error) -> Answer {
         if error.kind() == ErrorKind::OutOfMemory {
             return Answer::Memory;
         }
         match format!(in alloc; "{error}") {
-            Ok(text) if error.use_stderr() => match without_tip(alloc, text) {
-                Ok(text) => Answer::Misuse(text),
-                Err(_) => Answer::Memory,
-            },
+            Ok(text) if error.use_stderr() => Answer::Misuse(text),
             Ok(text) => Answer::Text(text),
-            Err(_) => Answer::Memory,
+            Err(AllocError) => Answer::Memory,
         }
     }
 
@@ -60,34 +58,46 @@ impl Answer {
         words: &[String],
     ) -> Result<ExitCode, StreamFault<'a>> {
         match self {
-            Answer::Text(text) => match print(rt, text.as_bytes()) {
-                Ok(()) => Ok(ExitCode::SUCCESS),
-                Err(fault) => Err(fault),
-            },
+            Answer::Text(text) => {
+                print_text(rt, text)?;
+                return Ok(ExitCode::SUCCESS);
+            }
             Answer::Misuse(text) => {
                 if !are_in_words(rt, words) {
+                    let (before, after) = without_tip(text);
                     // If standard error fails, only the status reports it.
-                    let _ = eprint!(rt; "{text}");
+                    let _ = eprint!(rt; "{before}{after}");
                 }
-                Ok(ExitCode::from(USAGE))
             }
             Answer::NotText => {
                 let _ = eprintln!(rt;
                     "error: a word on the command line is no text: it is not UTF-8"
                 );
-                Ok(ExitCode::from(USAGE))
             }
-            Answer::Memory => Err(StreamFault::Memory),
+            Answer::Memory => return Err(StreamFault::Memory),
         }
+        Ok(ExitCode::from(USAGE))
     }
+}
+
+/// Appends an item that was made, at any type: a proof at a type of many fields is longer.
+pub(crate) fn add<T: Drop>(
+    items: &mut Vec<T>,
+    made: Result<T, AllocError>,
+) -> Result<(), AllocError> {
+    items.push(made?)?;
+    Ok(())
 }
 
 /// The words with their control characters by their bytes.
 fn printable(alloc: Global, words: &[String]) -> Result<Vec<String>, AllocError> {
     let mut shown = Vec::new(alloc);
     for word in words {
-        let word = Printable(word.as_str());
-        shown.push(format!(in alloc; "{word}")?)?;
+        let word = Printable {
+            text: word,
+            has_lines: false,
+        };
+        add(&mut shown, format!(in alloc; "{word}"))?;
     }
     Ok(shown)
 }

@@ -5,8 +5,8 @@ use crate::streams::StreamFault;
 use std::fs::File;
 use std::os::fd::{AsRawFd, IntoRawFd};
 
-/// The number of standard error, the last of the three.
-const LAST_STREAM: i32 = 2;
+/// The standard streams have the numbers below this one.
+const STREAMS: i32 = 3;
 
 /// A folder that each system has: what it is opened as can't be read or written as a file.
 const ROOT: &str = "/";
@@ -16,9 +16,9 @@ const ROOT: &str = "/";
 /// the system does not tell.
 pub fn keep_stream_numbers<'a>(rt: &HostRuntime) -> Result<(), StreamFault<'a>> {
     // The system gives the lowest number that is free.
-    for _ in 0..=LAST_STREAM {
+    for _ in 0..STREAMS {
         match File::open(rt, ROOT) {
-            Ok(file) if file.as_raw_fd() > LAST_STREAM => return Ok(()),
+            Ok(file) if file.as_raw_fd() >= STREAMS => return Ok(()),
             // It stays open as long as the program runs.
             Ok(file) => {
                 let _ = file.into_raw_fd();

@@ -1,9 +1,6 @@
 //! The request of a `diff`.
 
-ghost use Rattle.geos_shell.specs.Limits.{KeepsLimits};
-
 use crate::given::Given;
-use crate::request::{FileRequest, Request};
 
 /// To print what differs between two VM files.
 #[derive(Clone, Copy)]
@@ -16,12 +13,10 @@ pub struct DiffRequest<'a> {
 }
 
 /// The request of a `diff`.
-pub(crate) fn diff_of<'a>(given: &Given<'_, 'a>) -> Request<'a>
-    ensures { KeepsLimits result }
-{
-    Request::File(FileRequest::Diff(DiffRequest {
+pub(crate) fn diff_of<'a>(given: &Given<'_, 'a>) -> DiffRequest<'a> {
+    DiffRequest {
         one: given.word("A"),
         other: given.word("B"),
         saved: given.flag("saved"),
-    }))
+    }
 }

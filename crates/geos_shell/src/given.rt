@@ -3,67 +3,62 @@
 ghost use Rattle.std.specs.Prelude.{◌≢◌};
 ghost use Rattle.geos_shell.specs.Limits.{IsWithin};
 
-use crate::numbers::{Number, number_in};
+use crate::numbers::{Number, StepRange, number_in, steps_in};
 use crate::streams::is_stream;
 use clap::ArgMatches;
 use clap::parser::ValueSource;
 use std::alloc::{AllocError, Global};
 
 /// The words after a command's name. A command has nothing under a name that is none of its arguments.
-#[derive(Drop)]
+#[derive(Clone, Copy)]
 pub(crate) struct Given<'m, 'a> {
-    words: &'m ArgMatches<'a>,
+    pub(crate) matches: &'m ArgMatches<'a>,
+    /// The columns of the terminal that standard output is, if they are known.
+    pub(crate) columns: Option<u32>,
 }
 
-impl<'m, 'a> Given<'m, 'a> {
-    pub(crate) fn new(words: &'m ArgMatches<'a>) -> Given<'m, 'a> {
-        Given { words }
-    }
-
+impl<'a> Given<'_, 'a> {
     /// Whether words are given under the name, and not only a default.
     pub(crate) fn has(&self, name: &str) -> bool {
         matches!(
-            self.words.value_source(name),
+            self.matches.value_source(name),
             Some(ValueSource::CommandLine)
         )
     }
 
     /// A word that the command requires, so it exists.
     pub(crate) fn word(&self, name: &str) -> &'a str {
-        self.words.get_str(name).unwrap_or("")
+        self.matches.get_str(name).unwrap_or("")
     }
 
     /// A word that the command may be given.
     pub(crate) fn setting(&self, name: &str) -> Option<&'a str> {
-        self.words.get_str(name)
+        self.matches.get_str(name)
     }
 
     pub(crate) fn flag(&self, name: &str) -> bool {
-        self.words.get_flag(name)
+        self.matches.get_flag(name)
     }
 
     /// The words that are given for a name, if there are any.
     pub(crate) fn words(&self, alloc: Global, name: &str) -> Result<Vec<&'a str>, AllocError> {
-        match self.words.get_strs(name) {
+        match self.matches.get_strs(name) {
             Some(given) => Vec::from_slice(alloc, given),
             None => Ok(Vec::new(alloc)),
         }
     }
 
-    /// How many of the words that are given for a name are the standard input.
-    pub(crate) fn streams(&self, name: &str) -> usize {
+    /// How many of the words that are given for these names, with `+` between them, are the standard input.
+    pub(crate) fn streams(&self, names: &str) -> usize {
         let mut count: usize = 0;
-        for word in self.words.get_strs(name).unwrap_or(&[]) {
-            if is_stream(word) {
-                count = count.saturating_add(1);
+        for name in names.split('+') {
+            for word in self.matches.get_strs(name).unwrap_or(&[]) {
+                if is_stream(word) {
+                    count = count.saturating_add(1);
+                }
             }
         }
         count
-    }
-
-    /// Whether the words under two names are one path of a file. The second one may be left out.
-    pub(crate) fn has_path_twice(&self, name: &str, other: &str) -> bool {
-        matches!(self.setting(other), Some(path) if path == self.word(name) && !is_stream(path))
     }
 
     /// The number that is given, or the greatest one if there is none.
@@ -75,6 +70,23 @@ impl<'m, 'a> Given<'m, 'a> {
         match number_in(self.word(number.name)) {
             Some(n) if number.least <= n && n <= number.most && n % number.unit == 0 => n,
             _ => number.most,
+        }
+    }
+
+    /// The steps of a run that are named, or none.
+    pub(crate) fn steps(&self) -> StepRange {
+        steps_in(self.word("steps")).unwrap_or(StepRange {
+            skipped: 0,
+            last: 0,
+        })
+    }
+
+    /// The number of 16 bits that is given, if there is one.
+    pub(crate) fn short_if_any(&self, name: &str) -> Option<u16> {
+        if self.has(name) {
+            Some(self.short(name))
+        } else {
+            None
         }
     }
 

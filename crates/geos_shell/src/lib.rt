@@ -5,22 +5,23 @@
 #![tactic(auto)]
 
 mod answer;
-mod arguments;
 mod colours;
 mod command_line;
+mod commands;
 mod copying;
 mod descriptors;
 mod diffing;
+mod dumping;
 mod faults;
-mod file_id;
 mod forms;
 mod given;
 mod help;
 mod kept;
 mod locks;
-mod misuse;
+mod making;
 mod new_file;
 mod numbers;
+mod one_file;
 mod output;
 mod parts;
 mod printable;
@@ -31,22 +32,26 @@ mod request;
 mod rules;
 mod run_limits;
 mod streams;
+mod wrapping;
 
 pub use answer::Answer;
 pub use command_line::words;
 pub use copying::CopyRequest;
 pub use descriptors::keep_stream_numbers;
 pub use diffing::DiffRequest;
+pub use dumping::DumpRequest;
 pub use forms::{Digits, EndCommit, OutputForm};
 pub use locks::{FileLock, Lockable, Sharing};
+pub use making::New;
 pub use new_file::NewFile;
+pub use one_file::are_one_file_read;
 pub use output::keep_from_output;
 pub use printable::Named;
 pub use reason::Reason;
 pub use reported::{Diagnosed, Reported, done_or_reported, report};
 pub use request::{
-    Asked, CallWords, ChunkPath, FileRequest, NewText, Reports, Request, RoutineRequest,
-    TestRequest, TextRequest, TraceWords, requested,
+    Asked, CallWords, ChunkPath, FileRequest, NewText, PagePaths, PutRequest, Reports, Request,
+    RoutineRequest, TestRequest, TextRequest, TraceWords, requested,
 };
-pub use run_limits::RunLimits;
+pub use run_limits::{Room, RunLimits};
 pub use streams::{STANDARD, StreamFault, print, print_lines, read, tell, tell_typist, write};

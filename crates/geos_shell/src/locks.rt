@@ -1,16 +1,16 @@
 //! Locks on VM files, so that no two programs work on one at a time.
 
-use crate::file_id::FileId;
-use crate::output::goes_into;
-use crate::printable::Printable;
+use crate::one_file::leads_to;
+use crate::output::OUTPUT;
+use crate::printable::Named;
 use crate::reason::Reason;
 use crate::streams::{STANDARD, StreamFault};
 use std::fs::{self, File, OpenOptions, TryLockError};
 use std::io::{self, ErrorKind, IsTerminal};
 use std::thread;
-use std::time::{Duration, Instant};
+use std::time::Duration;
 
-/// Who else may hold a lock on the file meanwhile.
+/// Which other programs may lock the file at the same time.
 #[derive(Clone, Copy)]
 pub enum Sharing {
     /// Nobody.
@@ -38,14 +38,10 @@ pub struct FileLock<'a> {
 /// How often a file is opened anew whose path leads to another one once its lock is had.
 const MOST_REPLACED: u32 = 3;
 
-/// Whether the path leads to a file, and to nothing else: to open a pipe may wait for who writes into it.
-fn is_file(rt: &HostRuntime, path: &str) -> io::Result<bool> {
-    Ok(fs::metadata(rt, path)?.is_file())
-}
-
-/// Opens the file: to change it where nobody else may have it, otherwise to read it.
+/// Opens the file: for changes if no other program may lock it, otherwise for reading.
+/// Only regular files: to open a pipe may wait for a program that writes into it.
 fn opened(rt: &HostRuntime, path: &str, sharing: Sharing) -> io::Result<File> {
-    if !is_file(rt, path)? {
+    if !fs::metadata(rt, path)?.is_file() {
         return Err(io::Error::from(ErrorKind::InvalidInput));
     }
     let mut how = OpenOptions::new();
@@ -53,26 +49,13 @@ fn opened(rt: &HostRuntime, path: &str, sharing: Sharing) -> io::Result<File> {
     how.open(rt, path)
 }
 
-/// Whether the path leads to the open file, as far as the system says so: another program may have given the path to another file.
-fn leads_to(rt: &HostRuntime, path: &str, file: &File) -> bool {
-    let Ok(there) = fs::metadata(rt, path) else {
-        return false;
-    };
-    matches!(file.metadata(), Ok(open) if FileId::of(&there) == FileId::of(&open))
-}
-
-/// Whether the standard output goes into the open file.
-fn is_output(rt: &HostRuntime, file: &File) -> bool {
-    matches!(file.metadata(), Ok(found) if goes_into(rt, FileId::of(&found)))
-}
-
-/// How long the program tries to take the lock before it reports that it waits, in milliseconds.
-const SOON: u64 = 1_000;
+/// The most tries to take the lock before the program reports that it waits: for a second.
+const MOST_TRIES: u32 = 100;
 
 /// The pause between two tries, in milliseconds.
 const PAUSE: u64 = 10;
 
-/// Takes the lock if no other program has it.
+/// Takes the lock, unless another program has it.
 fn tried(file: &File, sharing: Sharing) -> Result<(), TryLockError> {
     match sharing {
         Sharing::Alone => file.try_lock(),
@@ -80,33 +63,24 @@ fn tried(file: &File, sharing: Sharing) -> Result<(), TryLockError> {
     }
 }
 
-/// Takes the lock if no other program has it all that time.
-fn had_soon(rt: &HostRuntime, file: &File, sharing: Sharing) -> io::Result<bool> {
-    let begun = Instant::now(rt)?;
-    for _ in 0..SOON / PAUSE {
-        match tried(file, sharing) {
-            Ok(()) => return Ok(true),
-            Err(TryLockError::WouldBlock) => {}
-            Err(TryLockError::Error(error)) => return Err(error),
-        }
-        // A pause may last longer than it was asked to.
-        if begun.elapsed(rt)? >= Duration::from_millis(SOON) {
-            break;
+/// Takes the lock; `false` if another program has it at each of so many tries. On a system without locks nobody has it.
+pub(crate) fn has_lock_within(rt: &HostRuntime, file: &File, sharing: Sharing, tries: u32) -> bool {
+    for _ in 0..tries {
+        if !matches!(tried(file, sharing), Err(TryLockError::WouldBlock)) {
+            return true;
         }
         thread::sleep(rt, Duration::from_millis(PAUSE));
     }
-    Ok(false)
+    false
 }
 
-/// Waits until the file's lock is had. A user at a terminal is told so, if it takes long.
+/// Waits until the file is locked. If this takes long, it reports the wait to a user at a terminal.
 fn lock(rt: &HostRuntime, file: &File, path: &str, sharing: Sharing) -> io::Result<()> {
-    if rt.stderr().is_terminal() {
-        if had_soon(rt, file, sharing)? {
-            return Ok(());
-        }
-        let path = Printable(path);
+    if rt.stderr().is_terminal() && !has_lock_within(rt, file, sharing, MOST_TRIES) {
+        let path = Named(path);
         let _ = eprintln!(rt; "waiting for {path}: another program works on it");
     }
+    // It stays if it is had.
     match sharing {
         Sharing::Alone => file.lock(),
         Sharing::Shared => file.lock_shared(),
@@ -122,16 +96,19 @@ fn fault<'a>(path: &'a str, error: &io::Error) -> StreamFault<'a> {
 }
 
 impl<'a> Lockable<'a> {
-    /// Opens the file with the path, without its lock: to work on it alone, or to read it as others may meanwhile. `StreamFault::Read`
-    /// where there is no such file, or where it is a folder, a pipe, a device or a socket, or may not be read, or changed where it is
-    /// to work on it alone; `StreamFault::Write` of `-` if the standard output goes into it.
+    /// Opens the file with the path, without its lock: for exclusive work, or to read it while other programs read it.
+    /// `StreamFault::Read` if there is no such file, if it is a folder, a pipe, a device or a socket, or if it may not
+    /// be read, or changed for exclusive work; `StreamFault::Write` of `-` if the standard output goes into it.
     pub fn open(
         rt: &HostRuntime,
         path: &'a str,
         sharing: Sharing,
     ) -> Result<Lockable<'a>, StreamFault<'a>> {
         match opened(rt, path, sharing) {
-            Ok(file) if is_output(rt, &file) => Err(StreamFault::Write(STANDARD, Reason::InUse)),
+            Ok(file) if leads_to(rt, OUTPUT, &file) => Err(StreamFault::Write(
+                STANDARD,
+                Reason::IN_USE,
+            )),
             Ok(file) => Ok(Lockable {
                 path,
                 sharing,
@@ -141,22 +118,21 @@ impl<'a> Lockable<'a> {
         }
     }
 
-    /// Takes the lock, and says so where that takes long and standard error is a terminal.
+    /// Locks the file. If this takes long and standard error is a terminal, it reports the wait.
     fn locked(self, rt: &HostRuntime) -> Result<FileLock<'a>, StreamFault<'a>> {
-        let Lockable {
-            path,
-            sharing,
-            file,
-        } = self;
-        match lock(rt, &file, path, sharing) {
-            Ok(()) => Ok(FileLock { path, file }),
-            Err(error) => Err(fault(path, &error)),
+        match lock(rt, &self.file, self.path, self.sharing) {
+            Ok(()) => Ok(FileLock {
+                path: self.path,
+                file: self.file,
+            }),
+            Err(error) => Err(fault(self.path, &error)),
         }
     }
 
-    /// Waits until the lock on the file is had, and says so where that takes long and standard error is a terminal. If the path leads to
-    /// another file then, as after a rename, that one is opened and waited for in its place, at most three times. `StreamFault::Read`
-    /// if the system has no locks for it, or if the path leads to another file each time; and the faults of `open`.
+    /// Waits until the file is locked. If this takes long and standard error is a terminal, it reports the wait. If the
+    /// path then leads to another file, as after a rename, it opens that file and waits for its lock instead, at most
+    /// three times. `StreamFault::Read` if the system has no locks for the file, or if the path leads to another file
+    /// each time; and the faults of `open`.
     pub fn wait(self, rt: &HostRuntime) -> Result<FileLock<'a>, StreamFault<'a>> {
         let path = self.path;
         let sharing = self.sharing;
@@ -170,7 +146,7 @@ impl<'a> Lockable<'a> {
             drop(lock);
             lockable = Lockable::open(rt, path, sharing)?;
         }
-        Err(StreamFault::Read(path, Reason::InUse))
+        Err(StreamFault::Read(path, Reason::IN_USE))
     }
 }
 

@@ -1,6 +1,6 @@
 //! A file that is made whole, or not at all.
 
-use crate::parts::{Part, PartFault};
+use crate::parts::Part;
 use crate::streams::{StreamFault, not_written};
 use std::fs::{self, File};
 use std::io::{self, ErrorKind};
@@ -19,7 +19,7 @@ pub struct NewFile<'a> {
 fn begun(rt: &HostRuntime, path: &str) -> io::Result<Part> {
     match fs::symlink_metadata(rt, path) {
         Ok(_) => Err(io::Error::from(ErrorKind::AlreadyExists)),
-        Err(error) if error.kind() == ErrorKind::NotFound => Part::beside(rt, path, ANY, None),
+        Err(error) if error.kind() == ErrorKind::NotFound => Part::beside(rt, path, ANY, path),
         Err(error) => Err(error),
     }
 }
@@ -30,7 +30,7 @@ impl<'a> NewFile<'a> {
     pub fn begin(rt: &HostRuntime, path: &'a str) -> Result<NewFile<'a>, StreamFault<'a>> {
         match begun(rt, path) {
             Ok(part) => Ok(NewFile { path, part }),
-            Err(error) => Err(not_written(path, PartFault::System(error))),
+            Err(error) => Err(not_written(path, &error)),
         }
     }
 
@@ -38,17 +38,21 @@ impl<'a> NewFile<'a> {
     pub fn file(&self) -> Result<File, StreamFault<'a>> {
         match self.part.file.try_clone() {
             Ok(file) => Ok(file),
-            Err(error) => Err(not_written(self.path, PartFault::System(error))),
+            Err(error) => Err(not_written(self.path, &error)),
         }
     }
 
     /// Gives the file its path, which lasts then. `StreamFault::Write` if something has got that path meanwhile, or where the system
     /// refuses: then nothing is left. `StreamFault::Left` if the file has its path, but its part can't be removed.
     pub fn finish(self, rt: &HostRuntime) -> Result<(), StreamFault<'a>> {
-        let NewFile { path, part } = self;
-        match part.give_path(rt, path) {
-            Ok(()) => Ok(()),
-            Err(fault) => Err(not_written(path, fault)),
+        match self.part.give_path(rt, self.path) {
+            Ok(has_one_name) => {
+                if has_one_name {
+                    return Ok(());
+                }
+                Err(StreamFault::Left(self.part.name))
+            }
+            Err(error) => Err(not_written(self.path, &error)),
         }
     }
 

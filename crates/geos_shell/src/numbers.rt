@@ -27,13 +27,29 @@ pub(crate) const REGION: Number = Number {
     unit: 1,
 };
 
-/// The steps that are printed of a run.
-pub(crate) const STEPS: Number = Number {
-    name: "steps",
-    least: 0,
-    most: 1_000_000,
-    unit: 1,
-};
+/// The last step of a run that can be shown.
+const LAST_STEP: u32 = 1_000_000;
+
+/// Steps of a run, counted from 1.
+#[derive(Clone, Copy)]
+pub(crate) struct StepRange {
+    /// How many steps precede the first one.
+    pub(crate) skipped: u32,
+    pub(crate) last: u32,
+}
+
+/// The steps of a text `N`, which are the first N, or `A..B`. `None` of any other text, or if no step or one after `LAST_STEP` is named.
+pub(crate) fn steps_in(text: &str) -> Option<StepRange> {
+    let (skipped, last) = match text.split_once("..") {
+        Some((first, last)) => (number_in(first)?.checked_sub(1)?, number_in(last)?),
+        None => (0, number_in(text)?),
+    };
+    let is_empty = skipped > 0 && last <= skipped;
+    if is_empty || last > LAST_STEP {
+        return None;
+    }
+    Some(StepRange { skipped, last })
+}
 
 /// The highest budget of routines that are run.
 pub(crate) const MOST_STEPS: Number = Number {
@@ -48,6 +64,14 @@ pub(crate) const MOST_BYTES: Number = Number {
     name: "most-bytes",
     least: 0,
     most: 4_294_967_295,
+    unit: 1,
+};
+
+/// The blocks of global memory.
+pub(crate) const MOST_BLOCKS: Number = Number {
+    name: "most-blocks",
+    least: 0,
+    most: 1_024,
     unit: 1,
 };
 

@@ -32,7 +32,7 @@ pub fn done_or_reported<T: Drop, F: Diagnosed + Display + Drop>(
         Err(fault) => {
             let reported = report(rt, &fault);
             if reports.diagnostics {
-                tell(rt, &fault.diagnostics(rt.alloc()));
+                tell(rt, reports, &fault.diagnostics(rt.alloc()));
             }
             Err(reported)
         }

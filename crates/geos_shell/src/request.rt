@@ -1,19 +1,24 @@
 //! The request that the words on the command line make.
 
 ghost use Rattle.std.specs.Prelude.{IfOk};
-ghost use Rattle.geos_shell.specs.Limits.{KeepsLimits};
+ghost use Rattle.geos_shell.specs.Limits.{IsWidth, KeepsLimits};
 
 use crate::answer::{Answer, answer_to};
+use crate::colours::are_wanted;
 use crate::command_line::matches_of;
 use crate::copying::{CopyRequest, copy_of};
 use crate::diffing::{DiffRequest, diff_of};
+use crate::dumping::{DumpRequest, dump_of};
+use crate::faults::has_faults;
 use crate::forms::{EndCommit, OutputForm};
 use crate::given::Given;
-use crate::misuse::misuse;
-use crate::numbers::{AREA, REGION, STEPS, WIDTH};
+use crate::help::misuse;
+use crate::making::New;
+use crate::numbers::{AREA, REGION, StepRange, WIDTH};
 use crate::rules::misuse_of;
 use crate::run_limits::RunLimits;
 use crate::streams::STANDARD;
+use crate::wrapping::columns;
 use clap::ArgMatches;
 use std::alloc::{AllocError, Global};
 use std::io::IsTerminal;
@@ -31,7 +36,9 @@ pub struct TraceWords<'a> {
     pub call: CallWords<'a>,
     /// The routine whose steps are printed; with none, those of all are.
     pub only: Option<&'a str>,
-    /// How many steps are printed at most.
+    /// How many steps precede the first one that is printed.
+    pub skipped: u32,
+    /// The number of the last step that is printed.
     pub steps: u32,
     /// Whether it is printed how often each line ran, in place of steps.
     pub count: bool,
@@ -49,6 +56,19 @@ pub struct ChunkPath<'a> {
     pub chunk: u16,
     /// Whether it is an item.
     pub item: bool,
+}
+
+/// To write the standard input into a chunk of a VM file, and to update that.
+#[derive(Clone, Copy)]
+pub struct PutRequest<'a> {
+    /// The chunk, of which only the file is known if it is made.
+    pub chunk: ChunkPath<'a>,
+    /// The offset from which bytes are overwritten; with none, all are replaced.
+    pub at: Option<u16>,
+    /// What is made.
+    pub new: Option<New>,
+    /// How many bytes blocks in memory have.
+    pub region: u32,
 }
 
 /// To run routines of a text or an image.
@@ -97,6 +117,8 @@ pub struct TestRequest<'a> {
     pub scripts: Vec<&'a str>,
     pub file: Option<&'a str>,
     pub region: u32,
+    /// The path that what they came to goes to as JUnit XML, if that is required.
+    pub junit: Option<&'a str>,
 }
 
 /// To make something of a text or an image, or to say something of it. Nothing runs.
@@ -118,12 +140,23 @@ pub enum TextRequest<'a> {
     Check(&'a str),
     /// To print the explanation of an image.
     Explain(&'a str),
+    /// To make a page of the explanation.
+    Page(PagePaths<'a>),
     /// To print what is wrong with the bad lines of a script, for an image. Its lines may write names for words, or may not.
     ExplainScript {
         image: &'a str,
         script: &'a str,
         names: bool,
     },
+}
+
+/// A page, and what it is made of.
+#[derive(Clone, Copy)]
+pub struct PagePaths<'a> {
+    /// The path that is read.
+    pub shown: &'a str,
+    /// The path that the page goes to.
+    pub page: &'a str,
 }
 
 /// A text that is made of another one, with another path, or in its own place.
@@ -141,35 +174,21 @@ pub struct NewText<'a> {
 #[derive(Drop)]
 pub enum FileRequest<'a> {
     /// To make a VM file with areas of so many bytes, a legal area size.
-    New {
-        file: &'a str,
-        area: u32,
-    },
+    New { file: &'a str, area: u32 },
     /// To copy a VM file.
     Copy(CopyRequest<'a>),
-    /// To write the standard input into a chunk of a VM file, and to update that, with so many bytes for blocks in memory.
-    Put {
-        chunk: ChunkPath<'a>,
-        at: Option<u16>,
-        region: u32,
-    },
+    /// To write the standard input into a chunk of a VM file, and to update that.
+    Put(PutRequest<'a>),
     /// To print the bytes of a chunk.
-    Get {
-        chunk: ChunkPath<'a>,
-        region: u32,
-    },
-    /// To print a VM file, with the bytes of its chunks or without.
-    Dump {
-        file: &'a str,
-        chunks: bool,
-    },
+    Get { chunk: ChunkPath<'a>, region: u32 },
+    /// To print a VM file.
+    Dump(DumpRequest<'a>),
     /// To print what differs between two VM files.
     Diff(DiffRequest<'a>),
     /// To draw a VM file in so many columns.
-    Map {
-        file: &'a str,
-        width: u32,
-    },
+    Map { file: &'a str, width: u32 },
+    /// To make a page of a VM file.
+    Page(PagePaths<'a>),
 }
 
 /// The request that the words on the command line make. A path of `-` is a standard stream, except that of a VM
@@ -195,9 +214,11 @@ pub struct Asked<'a> {
     pub request: Request<'a>,
     /// What is tested of routines before they run.
     pub limits: RunLimits<'a>,
-    diagnostics: bool,
-    no_warnings: bool,
-    json: bool,
+    /// What is reported on standard error.
+    pub reports: Reports,
+    /// Whether standard error goes into a file that the request reads or works on, or into a VM file or an image that it is to write: a
+    /// message would become part of the file.
+    pub has_faults: bool,
 }
 
 /// What is reported on standard error beside the line of a fault.
@@ -207,19 +228,22 @@ pub struct Reports {
     pub diagnostics: bool,
     /// Warnings about texts.
     pub warnings: bool,
+    /// Whether all these are coloured.
+    pub colours: bool,
     /// Whether results, findings and warnings are JSON objects on the standard output, in place of diagnostics.
     pub json: bool,
 }
 
-impl Asked<'_> {
-    /// What is reported: diagnostics if `--diagnostics` asks for them or standard error is a terminal, and warnings with them unless
-    /// `--no-warnings` leaves them out.
-    pub fn reports(&self, rt: &HostRuntime) -> Reports {
-        let json = self.json;
-        let diagnostics = !json && (self.diagnostics || rt.stderr().is_terminal());
+impl Reports {
+    /// Which reports are printed: JSON, or diagnostics if `--diagnostics` is given or standard
+    /// error is a terminal; with either of them warnings, unless `--no-warnings` is given.
+    fn of(rt: &HostRuntime, given: &Given<'_, '_>) -> Reports {
+        let json = given.flag("json");
+        let diagnostics = !json && (given.flag("diagnostics") || rt.stderr().is_terminal());
         Reports {
             diagnostics,
-            warnings: (json || diagnostics) && !self.no_warnings,
+            warnings: (json || diagnostics) && !given.flag("no-warnings"),
+            colours: are_wanted(rt, given.word("color")),
             json,
         }
     }
@@ -261,7 +285,8 @@ fn trace_of<'a>(alloc: Global, given: &Given<'_, 'a>) -> Result<Request<'a>, All
 {
     let (image, file) = (given.word("IN"), given.setting("file"));
     let (only, page) = (given.setting("only"), given.setting("html"));
-    let (steps, region) = (given.number(&STEPS), given.number(&REGION));
+    let StepRange { skipped, last } = given.steps();
+    let region = given.number(&REGION);
     let count = given.flag("count");
     let call = CallWords {
         name: given.word("NAME"),
@@ -272,7 +297,8 @@ fn trace_of<'a>(alloc: Global, given: &Given<'_, 'a>) -> Result<Request<'a>, All
         words: TraceWords {
             call,
             only,
-            steps,
+            skipped,
+            steps: last,
             count,
             page,
         },
@@ -289,19 +315,18 @@ fn test_of<'a>(alloc: Global, given: &Given<'_, 'a>) -> Result<Request<'a>, Allo
         image: given.word("IN"),
         file: given.setting("file"),
         region: given.number(&REGION),
+        junit: given.setting("junit"),
         scripts: given.words(alloc, "SCRIPT")?,
     }))
 }
 
 /// The request of an `asm`.
-fn asm_of<'a>(given: &Given<'_, 'a>) -> Request<'a>
-    ensures { KeepsLimits result }
-{
-    Request::Text(TextRequest::Assemble {
+fn asm_of<'a>(given: &Given<'_, 'a>) -> TextRequest<'a> {
+    TextRequest::Assemble {
         text: given.word("IN"),
         image: given.word("OUT"),
         all_rows: given.flag("all-rows"),
-    })
+    }
 }
 
 /// The request of a `new`.
@@ -331,18 +356,17 @@ fn run_of<'a>(given: &Given<'_, 'a>) -> Request<'a>
 }
 
 /// The request of an `explain`.
-fn explain_of<'a>(given: &Given<'_, 'a>) -> Request<'a>
-    ensures { KeepsLimits result }
-{
+fn explain_of<'a>(given: &Given<'_, 'a>) -> TextRequest<'a> {
     let image = given.word("IMAGE");
-    Request::Text(match given.setting("script") {
-        Some(script) => TextRequest::ExplainScript {
+    match (given.setting("script"), given.setting("html")) {
+        (Some(script), _) => TextRequest::ExplainScript {
             image,
             script,
             names: given.flag("vars"),
         },
-        None => TextRequest::Explain(image),
-    })
+        (None, Some(page)) => TextRequest::Page(PagePaths { shown: image, page }),
+        (None, None) => TextRequest::Explain(image),
+    }
 }
 
 /// The chunk that a `put` or a `get` names.
@@ -359,16 +383,12 @@ fn chunk_of<'a>(given: &Given<'_, 'a>) -> ChunkPath<'a> {
 fn put_of<'a>(given: &Given<'_, 'a>) -> Request<'a>
     ensures { KeepsLimits result }
 {
-    let at = if given.has("AT") {
-        Some(given.short("AT"))
-    } else {
-        None
-    };
-    Request::File(FileRequest::Put {
+    Request::File(FileRequest::Put(PutRequest {
         chunk: chunk_of(given),
-        at,
+        at: given.short_if_any("AT"),
+        new: New::of(given),
         region: given.number(&REGION),
-    })
+    }))
 }
 
 /// The request of a `get`.
@@ -381,23 +401,29 @@ fn get_of<'a>(given: &Given<'_, 'a>) -> Request<'a>
     })
 }
 
+/// The columns of a drawing: those of the terminal, unless a number is given or they are no width.
+fn width_of(given: &Given<'_, '_>) -> u32
+    ensures { IsWidth result }
+{
+    match given.columns {
+        Some(columns) if !given.has("width") && WIDTH.least <= columns && columns <= WIDTH.most => {
+            columns
+        }
+        _ => given.number(&WIDTH),
+    }
+}
+
 /// The request of a `map`.
 fn map_of<'a>(given: &Given<'_, 'a>) -> Request<'a>
     ensures { KeepsLimits result }
 {
-    Request::File(FileRequest::Map {
-        file: given.word("FILE"),
-        width: given.number(&WIDTH),
-    })
-}
-
-/// The request of a `dump`.
-fn dump_of<'a>(given: &Given<'_, 'a>) -> Request<'a>
-    ensures { KeepsLimits result }
-{
-    Request::File(FileRequest::Dump {
-        file: given.word("FILE"),
-        chunks: given.flag("chunks"),
+    let file = given.word("FILE");
+    Request::File(match given.setting("html") {
+        Some(page) => FileRequest::Page(PagePaths { shown: file, page }),
+        None => FileRequest::Map {
+            file,
+            width: width_of(given),
+        },
     })
 }
 
@@ -421,19 +447,19 @@ fn plain_request<'a>(name: &str, given: &Given<'_, 'a>) -> Request<'a>
     ensures { KeepsLimits result }
 {
     match name {
-        "asm" => asm_of(given),
+        "asm" => Request::Text(asm_of(given)),
         "budget" => Request::Text(TextRequest::Budget(new_text_of(given))),
         "fmt" => Request::Text(TextRequest::Format(new_text_of(given))),
         "list" => Request::Text(TextRequest::List(given.word("IMAGE"))),
         "check" => Request::Text(TextRequest::Check(given.word("IMAGE"))),
-        "explain" => explain_of(given),
+        "explain" => Request::Text(explain_of(given)),
         "new" => new_of(given),
         "copy" => copy_of(given),
         "run" => run_of(given),
         "put" => put_of(given),
         "get" => get_of(given),
         "dump" => dump_of(given),
-        "diff" => diff_of(given),
+        "diff" => Request::File(FileRequest::Diff(diff_of(given))),
         "map" => map_of(given),
         "lsp" => Request::Serve,
         _ => Request::Routines(RoutineRequest::Session),
@@ -457,35 +483,38 @@ fn command_request<'a>(
 }
 
 /// The request of the words, and what is reported beside its faults. An error is what they are answered if something is wrong with them.
-fn asked_of<'a>(alloc: Global, matches: &ArgMatches<'a>) -> Result<Asked<'a>, Answer>
+fn asked_of<'a>(rt: &HostRuntime, matches: &ArgMatches<'a>) -> Result<Asked<'a>, Answer>
     ensures { IfOk result (λ asked. KeepsLimits asked.request) }
 {
-    let (name, words) = match matches.subcommand() {
+    let (name, matches) = match matches.subcommand() {
         Some(command) => command,
         None => ("", matches),
     };
-    let given = Given::new(words);
+    let columns = columns(rt);
+    let given = Given { matches, columns };
     if let Some(message) = misuse_of(&given, name) {
-        return Err(misuse(alloc, message, name));
+        return Err(misuse(rt.alloc(), message, name));
     }
-    match command_request(alloc, name, &given) {
-        Ok(request) => Ok(Asked {
-            request,
-            limits: RunLimits::of(&given),
-            diagnostics: given.flag("diagnostics"),
-            no_warnings: given.flag("no-warnings"),
-            json: given.flag("json"),
-        }),
+    match command_request(rt.alloc(), name, &given) {
+        Ok(request) => {
+            let has_faults = has_faults(rt, &given, &request);
+            Ok(Asked {
+                request,
+                limits: RunLimits::of(&given),
+                reports: Reports::of(rt, &given),
+                has_faults,
+            })
+        }
         Err(AllocError) => Err(Answer::Memory),
     }
 }
 
 /// The request of the words after the program's name. An error is the answer to words that request no work.
-pub fn requested<'a>(alloc: Global, words: &'a [String]) -> Result<Asked<'a>, Answer>
+pub fn requested<'a>(rt: &HostRuntime, words: &'a [String]) -> Result<Asked<'a>, Answer>
     ensures { IfOk result (λ asked. KeepsLimits asked.request) }
 {
-    match matches_of(alloc, words) {
-        Ok(matches) => asked_of(alloc, &matches),
-        Err(error) => Err(answer_to(alloc, words, &error)),
+    match matches_of(rt.alloc(), words) {
+        Ok(matches) => asked_of(rt, &matches),
+        Err(error) => Err(answer_to(rt.alloc(), words, &error)),
     }
 }

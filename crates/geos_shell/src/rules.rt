@@ -2,20 +2,21 @@
 
 use crate::command_line::parts_of;
 use crate::given::Given;
-use crate::numbers::number_in;
+use crate::numbers::{number_in, steps_in};
 
 /// The rules, in the order in which they are tested. A line has the command, or `*` for any; then conditions, with blanks between them;
 /// and after `: ` what is wrong if all of them are met:
 ///   name            words are given under the name
-///   !name           none are
 ///   name=-          one of them is the standard input
-///   name+other      so are two of those under both names
-///   name==other     the words are one path of a file
+///   name+other=--   so are two of those under both names
+///   name==other     the same word is given under both names
+///   name~           what is given names no steps of a run
 ///   name?0..9/3     what is given is no multiple of 3 from 0 to 9
+///   !name           the condition is not met
 const RULES: &str = "\
 * area?512..16777216/512: the number of '--area' is a multiple of 512 from 512 to 16777216
 * region?65536..16777216/1: the number of '--region' is from 65536 to 16777216
-* steps?0..1000000/1: the number of '--steps' is from 0 to 1000000
+* steps~: '--steps' takes N, from 0 to 1000000, or A..B, from 1 to 1000000
 * width?60..1000/1: the number of '--width' is from 60 to 1000
 * H?0..65535/1: H is a number from 0 to 65535
 * C?0..65535/1: C is a number from 0 to 65535
@@ -26,21 +27,44 @@ call update !file: '--update' and '--save' require '--file'
 call save !file: '--update' and '--save' require '--file'
 trace html count: '--html' can't be given with '--only' or '--count'
 trace html only: '--html' can't be given with '--only' or '--count'
-test IN+SCRIPT: only one of IN and SCRIPT.. is the standard input
-asm IN==OUT: IN and OUT are one file, and the text would be lost
+test IN+SCRIPT=--: only one of IN and SCRIPT.. is the standard input
+test junit=-: '--junit' requires a file OUT
+put new-block?0..65535/1: UID is a number from 0 to 65535
+put new-chunk?0..65535/1: H is a number from 0 to 65535
+put new-item?0..65535/1: G is a number from 0 to 65535
+put !C !new-block !new-group !new-chunk !new-item: H and C have to be given, or an option '--new-..'
+put H new-block: only one of H, '--new-block', '--new-group', '--new-chunk' and '--new-item' can be given
+put H new-group: only one of H, '--new-block', '--new-group', '--new-chunk' and '--new-item' can be given
+put H new-chunk: only one of H, '--new-block', '--new-group', '--new-chunk' and '--new-item' can be given
+put H new-item: only one of H, '--new-block', '--new-group', '--new-chunk' and '--new-item' can be given
+put new-block new-group: only one of H, '--new-block', '--new-group', '--new-chunk' and '--new-item' can be given
+put new-block new-chunk: only one of H, '--new-block', '--new-group', '--new-chunk' and '--new-item' can be given
+put new-block new-item: only one of H, '--new-block', '--new-group', '--new-chunk' and '--new-item' can be given
+put new-group new-chunk: only one of H, '--new-block', '--new-group', '--new-chunk' and '--new-item' can be given
+put new-group new-item: only one of H, '--new-block', '--new-group', '--new-chunk' and '--new-item' can be given
+put new-chunk new-item: only one of H, '--new-block', '--new-group', '--new-chunk' and '--new-item' can be given
+put item new-block: '--item' requires H and C
+put item new-group: '--item' requires H and C
+put item new-chunk: '--item' requires H and C
+put item new-item: '--item' requires H and C
+dump arrays json: only one of '--arrays' and '--json' can be given
+asm IN==OUT !IN=-: IN and OUT are one file, and the text would be lost
 explain !script vars: '--vars' is for a script, so '--script' has to be given
-explain IMAGE+script: only one of IMAGE and SCRIPT is the standard input
-run IMAGE+SCRIPT: only one of IMAGE and SCRIPT is the standard input
+explain html script: only one of '--html' and '--script' can be given
+map html width: only one of '--html' and '--width' can be given
+explain IMAGE+script=--: only one of IMAGE and SCRIPT is the standard input
+run IMAGE+SCRIPT=--: only one of IMAGE and SCRIPT is the standard input
 * hex signed: only one of '--hex', '--signed' and '--text' can be given
 * hex text: only one of '--hex', '--signed' and '--text' can be given
 * signed text: only one of '--hex', '--signed' and '--text' can be given
 run update save: only one of '--update' and '--save' can be given
 * in-place TEXT=-: '--in-place' requires a file TEXT, and no OUT
 * in-place OUT: '--in-place' requires a file TEXT, and no OUT
-budget TEXT==OUT: TEXT and OUT are one file, and the text would be lost
-fmt TEXT==OUT: TEXT and OUT are one file, and the text would be lost
+budget TEXT==OUT !TEXT=-: TEXT and OUT are one file, and the text would be lost
+fmt TEXT==OUT !TEXT=-: TEXT and OUT are one file, and the text would be lost
 * most-steps?0..4294967295/1: the number of '--most-steps' is from 0 to 4294967295
 * most-bytes?0..4294967295/1: the number of '--most-bytes' is from 0 to 4294967295
+* most-blocks?0..1024/1: the number of '--most-blocks' is from 0 to 1024
 * json diagnostics: only one of '--json' and '--diagnostics' can be given
 * json hex: only one of '--json' and '--hex' can be given
 * json signed: only one of '--json' and '--signed' can be given
@@ -67,22 +91,19 @@ fn is_outside(word: &str, limits: &str) -> bool {
     }
 }
 
-/// Whether a condition of a rule is met.
+/// Whether a condition of a rule is met, apart from a `!` before it.
 fn is_met(given: &Given<'_, '_>, condition: &str) -> bool {
-    if let Some(name) = condition.strip_prefix("!") {
-        return !given.has(name);
+    if let Some(name) = condition.strip_suffix("~") {
+        return matches!(given.setting(name), Some(word) if steps_in(word).is_none());
     }
     if let Some((name, limits)) = condition.split_once('?') {
         return matches!(given.setting(name), Some(word) if is_outside(word, limits));
     }
     if let Some((name, other)) = condition.split_once("==") {
-        return given.has_path_twice(name, other);
+        return given.setting(name) == given.setting(other);
     }
-    if let Some((name, _)) = condition.split_once("=-") {
-        return given.streams(name) > 0;
-    }
-    match condition.split_once('+') {
-        Some((name, other)) => given.streams(name).saturating_add(given.streams(other)) > 1,
+    match condition.split_once("=-") {
+        Some((names, more)) => given.streams(names) > more.len(),
         None => given.has(condition),
     }
 }
@@ -94,7 +115,11 @@ fn is_broken(given: &Given<'_, '_>, command: &str, rule: &str) -> bool {
         return false;
     }
     for condition in conditions.split(' ') {
-        if !is_met(given, condition) {
+        let is_broken = match condition.strip_prefix("!") {
+            Some(condition) => !is_met(given, condition),
+            None => is_met(given, condition),
+        };
+        if !is_broken {
             return false;
         }
     }

@@ -1,13 +1,13 @@
 //! What is read of files and of the standard input, and written to them or to the standard output.
 
-use crate::colours::{self, coloured};
+use crate::colours::tell_coloured;
 use crate::output::{keep_from_image, keep_from_output};
-use crate::parts::PartFault;
 use crate::printable::{Named, for_terminal};
 use crate::reason::Reason;
 use crate::replace::replace;
 use crate::reported::Diagnosed;
-use std::alloc::{AllocError, Global};
+use crate::request::Reports;
+use std::alloc::Global;
 use std::error::Error;
 use std::fmt::{self, Display, Formatter};
 use std::io::{ErrorKind, IsTerminal, Read, Write};
@@ -74,12 +74,11 @@ fn note(alloc: Global, path: Named<'_>, reason: Reason) -> Vec<u8> {
     }
 }
 
-/// Why the file with the path was not written, or not that only.
-pub(crate) fn not_written<'a>(path: &'a str, fault: PartFault) -> StreamFault<'a> {
-    match fault {
-        PartFault::Left(name) => StreamFault::Left(name),
-        PartFault::System(error) if error.kind() == ErrorKind::OutOfMemory => StreamFault::Memory,
-        PartFault::System(error) => StreamFault::Write(path, Reason::of(&error)),
+/// Why the file with the path was not written.
+pub(crate) fn not_written<'a>(path: &'a str, error: &io::Error) -> StreamFault<'a> {
+    match error.kind() {
+        ErrorKind::OutOfMemory => StreamFault::Memory,
+        _ => StreamFault::Write(path, Reason::of(error)),
     }
 }
 
@@ -119,9 +118,7 @@ pub fn read<'a>(rt: &HostRuntime, path: &'a str, most: u64) -> Result<Vec<u8>, S
 
 /// Writes the bytes to the standard output.
 pub(crate) fn put(rt: &HostRuntime, bytes: &[u8]) -> io::Result<()> {
-    let mut out = io::writer(rt);
-    out.write_all(bytes)?;
-    out.flush()
+    io::writer(rt).write_all(bytes)
 }
 
 /// Prints the bytes on the standard output.
@@ -144,19 +141,18 @@ pub fn print_lines<'a>(rt: &HostRuntime, text: &[u8]) -> Result<(), StreamFault<
     }
 }
 
-/// Diagnostics with control characters by their bytes, in colours if they are required.
-fn shown(rt: &HostRuntime, lines: &[u8]) -> Result<String, AllocError> {
-    let shown = for_terminal(rt.alloc(), lines)?;
-    if colours::are_wanted(rt) {
-        return coloured(rt.alloc(), shown.as_str());
-    }
-    Ok(shown)
-}
-
-/// Appends diagnostics to standard error, with control characters by their bytes. If that fails, only the status tells.
-pub fn tell(rt: &HostRuntime, lines: &[u8]) {
-    if let Ok(shown) = shown(rt, lines) {
+/// Appends diagnostics to standard error, with control characters by their bytes, and in colours if these are required. If that fails, only
+/// the status reports the fault.
+pub fn tell(rt: &HostRuntime, reports: Reports, lines: &[u8]) {
+    let Ok(shown) = for_terminal(rt.alloc(), lines) else {
+        return;
+    };
+    if !reports.colours {
         let _ = eprint!(rt; "{shown}");
+        return;
+    }
+    for line in shown.lines() {
+        tell_coloured(rt, line);
     }
 }
 
@@ -176,11 +172,12 @@ pub fn write<'a>(
     source: &str,
 ) -> Result<(), StreamFault<'a>> {
     if is_stream(path) {
-        keep_from_image(rt, path, source)?;
+        keep_from_image(rt, source)?;
         return print(rt, bytes);
     }
     match replace(rt, path, bytes, name_of(source)) {
-        Ok(()) => Ok(()),
-        Err(fault) => Err(not_written(path, fault)),
+        Ok(None) => Ok(()),
+        Ok(Some(part)) => Err(StreamFault::Left(part)),
+        Err(error) => Err(not_written(path, &error)),
     }
 }
