@@ -4,6 +4,7 @@
 ghost use Rattle.geos_shell.specs.Limits.{KeepsLimits};
 
 mod json;
+mod pages;
 mod requests;
 
 use geos_shell::{Answer, Asked, Reported, keep_stream_numbers, report, requested, words};
@@ -47,10 +48,10 @@ fn run_request(rt: &HostRuntime, asked: Asked) -> ExitCode
     requires { KeepsLimits asked.request }
 {
     // A fault would be written over what the file has, so only the status tells.
-    if asked.request.has_faults(rt) {
+    if asked.has_faults {
         return ExitCode::FAILURE;
     }
-    let reports = asked.reports(rt);
+    let reports = asked.reports;
     let done = carry_out(rt, reports, asked.request, &asked.limits);
     if reports.json {
         return ended(rt, done);
@@ -75,7 +76,7 @@ fn topic_or(rt: &HostRuntime, words: &[String], answer: Answer) -> Answer {
 
 /// Carries out the request of the words, and returns the program's status.
 fn run(rt: &HostRuntime, words: &[String]) -> ExitCode {
-    match requested(rt.alloc(), words) {
+    match requested(rt, words) {
         Ok(asked) => run_request(rt, asked),
         Err(answer) => answered(rt, words, &topic_or(rt, words, answer)),
     }

@@ -3,18 +3,19 @@
 ghost use Rattle.geos_shell.specs.Limits.{IsRegion, KeepsLimits, RunsWithinLimits, WorksWithinLimits};
 
 use crate::json::{assemble_and_tell, check_and_tell, done, print_warning, read_and_tell};
+use crate::pages::explain_on_page;
 use geos_cli::Mode;
-use geos_dump::Detail;
+use geos_dump::{Detail, Side, View};
 use geos_files::{
-    check_file, compare_files, copy_file, draw_file, is_vm_file, make_file, print_file,
+    check_file, compare_files, copy_file, draw_file, is_vm_file, make_file, make_page, print_file,
 };
 use geos_runs::{
     Manner, RunFault, Shown, Traceable, call as run_call, get, put, run, session, test, trace,
 };
 use geos_scripts::NameUse;
 use geos_shell::{
-    CallWords, EndCommit, FileRequest, OutputForm, Reported, Reports, Request, RoutineRequest,
-    RunLimits, TestRequest, TextRequest, report, tell,
+    CallWords, DumpRequest, EndCommit, FileRequest, OutputForm, Reported, Reports, Request, Room,
+    RoutineRequest, RunLimits, TestRequest, TextRequest, report, tell,
 };
 use geos_texts::{
     KnownLines, Limited, Limits, Runnable, TextFault, assemble, assemble_all, budget, check,
@@ -38,13 +39,32 @@ fn use_of(names: bool) -> NameUse {
     }
 }
 
-/// How much of a VM file is printed, and in which form.
-fn detail_of(chunks: bool, json: bool) -> Detail {
-    match (chunks, json) {
+/// How much is printed of the blocks of a VM file, and in which form.
+fn detail_of(dump: &DumpRequest<'_>, json: bool) -> Detail {
+    if dump.arrays {
+        return Detail::Elements;
+    }
+    match (dump.chunks || dump.block.is_some(), json) {
         (false, false) => Detail::Lines,
         (true, false) => Detail::Bytes,
         (false, true) => Detail::Objects,
         (true, true) => Detail::WholeObjects,
+    }
+}
+
+/// Which part of a VM file is printed, and how. A block is one of the current directory, if the saved one is not required.
+fn view_of(dump: &DumpRequest<'_>, json: bool) -> View {
+    let side = match dump.block {
+        _ if dump.saved => Some(Side::Saved),
+        Some(_) => Some(Side::Current),
+        None => None,
+    };
+    View {
+        detail: detail_of(dump, json),
+        short: dump.short,
+        side,
+        block: dump.block,
+        chunk: dump.chunk,
     }
 }
 
@@ -57,7 +77,7 @@ fn ran<T: Drop>(
 ) -> Result<T, Reported> {
     let ended = done(rt, reports, ran);
     if ended.is_err() && reports.diagnostics {
-        tell(rt, &routines.told(rt.alloc()));
+        tell(rt, reports, &routines.told(rt.alloc()));
     }
     ended
 }
@@ -89,7 +109,13 @@ fn limited<'a>(
     done(rt, reports, Limited::new(rt.alloc(), routines, limits))
 }
 
-/// How a script or a call is run, with as many bytes as it asks for.
+/// No limit on what blocks take.
+const ALL: Room = Room {
+    bytes: u32::MAX,
+    handles: 1_024,
+};
+
+/// How a script or a call runs, without a limit on what blocks take.
 fn manner_of(
     reports: Reports,
     strict: bool,
@@ -100,12 +126,10 @@ fn manner_of(
     Manner {
         mode: mode_of(strict),
         names,
-        most_bytes: u32::MAX,
+        room: ALL,
         form,
         commit,
-        wants_notes: reports.diagnostics || reports.json,
-        warns: reports.warnings,
-        json: reports.json,
+        reports,
     }
 }
 
@@ -163,7 +187,7 @@ fn traceable_of<'t>(
         image: &routines.image,
         origins,
         shown,
-        most_bytes: kept.limits.most_bytes,
+        room: kept.limits.room,
         json: reports.json,
     }
 }
@@ -235,7 +259,7 @@ fn warn_of(rt: &HostRuntime, reports: Reports, routines: &Runnable<'_>, named: &
     }
     match routines.advice_on_call(rt.alloc(), name, named.numbers) {
         Ok(Some(advice)) if reports.json => print_warning(rt, routines.path, &advice),
-        Ok(Some(advice)) => tell_warning(rt, routines.path, &advice),
+        Ok(Some(advice)) => tell_warning(rt, reports, routines.path, &advice),
         _ => {}
     }
 }
@@ -285,7 +309,7 @@ fn run_on<'a, 't>(
     requires { RunsWithinLimits request }
 {
     let image = &kept.routines.image;
-    let most_bytes = kept.limits.most_bytes;
+    let room = kept.limits.room;
     match request {
         RoutineRequest::Session => session(rt),
         RoutineRequest::Call {
@@ -298,7 +322,7 @@ fn run_on<'a, 't>(
             ..
         } => {
             let manner = Manner {
-                most_bytes,
+                room,
                 ..manner_of(reports, strict, NameUse::Allowed, form, commit)
             };
             run_call(rt, &manner, image, call, file, region)
@@ -323,7 +347,7 @@ fn run_on<'a, 't>(
             ..
         } => {
             let manner = Manner {
-                most_bytes,
+                room,
                 ..manner_of(reports, strict, use_of(names), form, commit)
             };
             run(rt, &manner, image, file, script, region)
@@ -335,14 +359,8 @@ fn run_on<'a, 't>(
 fn run_tests(rt: &HostRuntime, reports: Reports, request: TestRequest<'_>) -> Result<(), Reported>
     requires { IsRegion request.region }
 {
-    let TestRequest {
-        image,
-        scripts,
-        file,
-        region,
-    } = request;
-    let routines = runnable(rt, reports, image)?;
-    let tested = test(rt, &routines.image, &scripts, file, region);
+    let routines = runnable(rt, reports, request.image)?;
+    let tested = test(rt, &routines.image, &request);
     if ran(rt, reports, tested, &routines)? {
         Ok(())
     } else {
@@ -382,6 +400,7 @@ fn work_on_text<'a>(
         TextRequest::List(path) => list(rt, path),
         TextRequest::Check(path) => check(rt, reports, path),
         TextRequest::Explain(path) => explain(rt, path),
+        TextRequest::Page(paths) => explain_on_page(rt, paths),
         TextRequest::ExplainScript {
             image,
             script,
@@ -401,16 +420,14 @@ fn work_on_file(
     match request {
         FileRequest::New { file, area } => done(rt, reports, make_file(rt, file, area)),
         FileRequest::Copy(copy) => done(rt, reports, copy_file(rt, &copy)),
-        FileRequest::Put { chunk, at, region } => { done(rt, reports, put(rt, &chunk, at, region)) }
+        FileRequest::Put(request) => done(rt, reports, put(rt, &request)),
         FileRequest::Get { chunk, region } => done(rt, reports, get(rt, &chunk, region)),
-        FileRequest::Dump { file, chunks } => {
-            done(
-                rt,
-                reports,
-                print_file(rt, file, detail_of(chunks, reports.json)),
-            )
+        FileRequest::Dump(dump) => {
+            let view = view_of(&dump, reports.json);
+            done(rt, reports, print_file(rt, dump.file, view))
         }
         FileRequest::Diff(files) => done(rt, reports, compare_files(rt, &files)),
+        FileRequest::Page(paths) => done(rt, reports, make_page(rt, paths)),
         FileRequest::Map { file, width } => done(rt, reports, draw_file(rt, file, width)),
     }
 }
@@ -422,7 +439,7 @@ fn serve_editor(rt: &HostRuntime) -> Result<(), Reported> {
         Err(error) => Err(ServeFault::Stream(error)),
     };
     match served {
-        // The protocol asks for status 1 if an editor ends the server without `shutdown`.
+        // The protocol requires status 1 if an editor ends the server without `shutdown`.
         Ok(true) => Ok(()),
         Ok(false) => Err(Reported),
         Err(fault) => {

@@ -16,7 +16,7 @@ pub enum Lint {
     NeverRead,
     /// A value in word 7 is read after the instruction, and also if it is refused, when the number of the refusal is there.
     LostInWord7,
-    /// The instruction goes on to a label of refusals, from where word 7 is output.
+    /// Control runs from the instruction into a label of refusals, from which word 7 is output.
     RunsIntoRefusals,
     /// The counter is set to 0, so that its LOOP does not turn.
     NeverTurns,
@@ -69,7 +69,8 @@ impl Known {
             && self.live_here.after(pc, i) & self.live_here.before(target) & REFUSAL != 0
     }
 
-    /// Whether an instruction goes on, without a refusal, to where refusals lead and word 7 is output.
+    /// Whether control runs from an instruction, without a refusal, to a place where refusals jump to and word 7 is
+    /// output.
     fn runs_into_refusals(&self, points: &[Point], pc: usize, i: &Instr) -> bool {
         let next = pc.saturating_add(1);
         self.reaching.is_after_refusal(next)

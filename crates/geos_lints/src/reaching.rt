@@ -54,7 +54,7 @@ fn puts_into_word_7(i: &Instr) -> bool {
     written(i) & REFUSAL != 0 && i.opcode.facts().flow != Flow::Calls
 }
 
-/// The counters that are 0 when an instruction goes on to the next one. A CALL may change all.
+/// The counters that are 0 when control passes from an instruction to the next one. A CALL may change all.
 fn zeros_after(i: &Instr, zeros: Counters) -> Counters {
     match i.opcode {
         Opcode::Loop => zeros | counter_of(i),
@@ -94,7 +94,7 @@ impl Reaching {
         self.at(pc).has_value
     }
 
-    /// Whether the counter of a LOOP is 0 on each way to it.
+    /// Whether the counter of a LOOP is 0 on each path to it.
     pub(crate) fn is_at_zero(&self, pc: usize, i: &Instr) -> bool {
         i.opcode == Opcode::Loop && self.at(pc).zeros & counter_of(i) != 0
     }
@@ -104,7 +104,8 @@ impl Reaching {
         self.at(pc).after_refusal
     }
 
-    /// Whether an instruction goes on to the next one, and word 7 may then have neither a value nor the number of a refusal.
+    /// Whether control passes from an instruction to the next one, and word 7 may then have neither a value nor the
+    /// number of a refusal.
     pub(crate) fn leaves_unset(&self, pc: usize, i: &Instr) -> bool {
         self.at(pc).is_unset && falls_through(i.opcode) && !puts_into_word_7(i) && !reads_word_7(i)
     }

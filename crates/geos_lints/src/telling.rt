@@ -36,7 +36,7 @@ fn fact_of(alloc: Global, lint: Lint, i: &Instr) -> Result<String, AllocError> {
         }
         Lint::NeverTurns => {
             let counter = i.a;
-            format!(in alloc; "k{counter} is set to 0, so its LOOP goes on at once and never jumps")
+            format!(in alloc; "k{counter} is set to 0, so its LOOP never jumps")
         }
         Lint::NeverJumps => {
             let counter = i.a;

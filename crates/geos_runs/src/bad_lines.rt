@@ -94,16 +94,16 @@ impl Script<'_> {
 
     /// Warns of its calls that are probably not meant, if that is required. Nothing if there is no memory for it.
     pub(crate) fn warn(&self, rt: &HostRuntime, manner: &Manner) {
-        if !manner.warns {
+        if !manner.reports.warnings {
             return;
         }
         let alloc = rt.alloc();
         let Ok(calls) = self.doubtful_calls(alloc) else {
             return;
         };
-        if !manner.json {
+        if !manner.reports.json {
             if let Ok(told) = warning_lines(alloc, self.path, &calls) {
-                tell(rt, &told);
+                tell(rt, manner.reports, &told);
             }
         } else if let Ok(objects) = warning_objects(alloc, self.path, &calls) {
             // If the standard output fails, what follows reports it.
@@ -141,14 +141,13 @@ impl Script<'_> {
         fault: RunFault<'a>,
     ) -> RunFault<'a> {
         match fault {
-            RunFault::Session(ScriptFault::BadScript(line)) if manner.wants_notes && !manner.json =>
-                {
-                    let told = match self.diagnostics(alloc, manner, line) {
-                        Ok(told) => told,
-                        Err(_) => Vec::new(alloc),
-                    };
-                    RunFault::BadLines(ScriptFault::BadScript(line), told)
-                }
+            RunFault::Session(ScriptFault::BadScript(line)) if manner.reports.diagnostics => {
+                let told = match self.diagnostics(alloc, manner, line) {
+                    Ok(told) => told,
+                    Err(_) => Vec::new(alloc),
+                };
+                RunFault::BadLines(ScriptFault::BadScript(line), told)
+            }
             fault => fault,
         }
     }

@@ -49,7 +49,8 @@ impl<'a> Job<'_, 'a> {
     ) -> Result<(), RunFault<'a>>
         requires { NoneLocked kernel.old.core.blocks }
     {
-        kernel.limit(self.manner.most_bytes);
+        kernel.limit(self.manner.room.bytes);
+        kernel.limit_handles(self.manner.room.handles);
         match &self.work {
             Work::Call(call) => run_call_on(rt, self.manner, self.image, call, kernel),
             Work::Script(path, bytes) => {

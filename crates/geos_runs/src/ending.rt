@@ -24,14 +24,14 @@ fn tell_of_lost(rt: &HostRuntime, manner: &Manner, path: &str, kernel: &Kernel<F
     if changed == 0 {
         return;
     }
-    if manner.json {
+    if manner.reports.json {
         return print_lost(rt, path, changed);
     }
     let path = Named(path);
     if let Ok(note) = format!(in rt.alloc();
-        "{path}: note: changed blocks that are not kept: {changed}; commit them by update or save, or give --update or --save\n"
+        "{path}: note: changed blocks that are not committed: {changed}; commit them by update or save, or give --update or --save\n"
     ) {
-        tell(rt, note.as_bytes());
+        tell(rt, manner.reports, note.as_bytes());
     }
 }
 
@@ -47,7 +47,7 @@ pub(crate) fn ended<'a>(
         Some(EndCommit::Update) if done.is_ok() => How::Update,
         Some(EndCommit::Save) if done.is_ok() => How::Save,
         _ => {
-            if manner.wants_notes {
+            if manner.reports.diagnostics || manner.reports.json {
                 tell_of_lost(rt, manner, path, kernel);
             }
             return done;

@@ -1,7 +1,5 @@
 //! What the program `geos` runs: sessions, scripts, tests, calls and traces, on a VM file of the system or on one in memory; and chunks of
-//! a VM file that are written and read.
-//!
-//! It takes the bytes of images, so that it is proved beside the crates that make images of texts.
+//! a VM file that are made, written and read.
 #![tactic(auto)]
 
 mod bad_lines;
@@ -9,9 +7,11 @@ mod calling;
 mod chunks;
 mod ending;
 mod fault;
+mod making;
 mod manner;
 mod objects;
 mod paging;
+mod progress;
 mod running;
 mod step_objects;
 mod testing;

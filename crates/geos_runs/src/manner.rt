@@ -4,13 +4,15 @@ ghost use Rattle.vm_blocks.specs.Listed.{NoneLocked};
 
 use crate::fault::RunFault;
 use crate::objects::{print_call_objects, print_script_objects};
+use crate::progress::{ProgressLine, is_shown};
 use geos_cli::{
-    CallFault, Counted, EarlyEnd, Form, Mode, RefusedCommand, ScriptFault, Writing, run_call,
-    run_call_in_form, run_script_in_form, run_script_in_mode, run_script_with_names,
+    CallFault, Counted, EarlyEnd, Form, Mode, RefusedCommand, RunOptions, ScriptFault, Unwatched,
+    Writing, run_call, run_call_in_form, run_script_in_form, run_script_in_mode,
+    run_script_with_names,
 };
 use geos_kernel::Kernel;
 use geos_scripts::NameUse;
-use geos_shell::{CallWords, Digits, EndCommit, OutputForm};
+use geos_shell::{CallWords, Digits, EndCommit, OutputForm, Reports, Room};
 use std::alloc::Global;
 use std::io;
 use std::io::{BufWriter, Printer, Write};
@@ -23,18 +25,15 @@ pub struct Manner {
     pub mode: Mode,
     /// Whether its lines may write names for words that calls output.
     pub names: NameUse,
-    /// How many bytes more than before the blocks in memory may have.
-    pub most_bytes: u32,
+    /// What blocks in memory may take.
+    pub room: Room,
     /// How outputs are written.
     pub form: OutputForm,
     /// What is committed at the end of a run on a file.
     pub commit: Option<EndCommit>,
-    /// Whether changed blocks of a file that no commit has written are reported.
-    pub wants_notes: bool,
-    /// Whether it is warned of calls of a script that are probably not meant.
-    pub warns: bool,
-    /// Whether outputs, notes and warnings are JSON objects.
-    pub json: bool,
+    /// What is reported beside outputs: changed blocks of a file that no commit has written, and calls of a script that are probably not
+    /// meant.
+    pub reports: Reports,
 }
 
 /// Standard output through a buffer, which counts its calls. `ScriptFault::Memory` if there is no memory for the buffer.
@@ -60,6 +59,15 @@ fn form_of(form: &OutputForm) -> Form {
     }
 }
 
+/// The options of a run with a follower.
+fn options_of<F>(manner: &Manner, follower: F) -> RunOptions<F> {
+    RunOptions {
+        form: form_of(&manner.form),
+        mode: manner.mode,
+        follower,
+    }
+}
+
 /// Runs a script with an image on a kernel of whose VM file no block is locked.
 fn run_script_in<W: Write, D: Device + Drop>(
     rt: &HostRuntime,
@@ -72,12 +80,15 @@ fn run_script_in<W: Write, D: Device + Drop>(
     requires { NoneLocked kernel.old.core.blocks }
 {
     let alloc = rt.alloc();
-    let form = &manner.form;
-    if form.is_plain() {
+    if is_shown(rt) {
+        let options = options_of(manner, ProgressLine::new(rt));
+        return run_script_in_form(alloc, options, image, script, kernel, out);
+    }
+    if manner.form.is_plain() {
         return run_script_in_mode(alloc, manner.mode, image, script, kernel, out);
     }
-    let form = form_of(form);
-    run_script_in_form(alloc, form, manner.mode, image, script, kernel, out)
+    let options = options_of(manner, Unwatched);
+    run_script_in_form(alloc, options, image, script, kernel, out)
 }
 
 /// The same of a script whose lines may write names, if they may.
@@ -92,9 +103,13 @@ pub(crate) fn run_lines_in<W: Write, D: Device + Drop>(
     requires { NoneLocked kernel.old.core.blocks }
 {
     match manner.names {
+        NameUse::Allowed if is_shown(rt) => {
+            let options = options_of(manner, ProgressLine::new(rt));
+            run_script_with_names(rt.alloc(), options, image, script, kernel, out)
+        }
         NameUse::Allowed => {
-            let form = form_of(&manner.form);
-            run_script_with_names(rt.alloc(), form, manner.mode, image, script, kernel, out)
+            let options = options_of(manner, Unwatched);
+            run_script_with_names(rt.alloc(), options, image, script, kernel, out)
         }
         NameUse::Refused => match run_script_in(rt, manner, image, script, kernel, out)? {
             None => Ok(None),
@@ -113,7 +128,7 @@ pub(crate) fn run_script_on<'a, D: Device + Drop>(
 ) -> Result<(), RunFault<'a>>
     requires { NoneLocked kernel.old.core.blocks }
 {
-    if manner.json {
+    if manner.reports.json {
         return print_script_objects(rt, manner, image, script, kernel);
     }
     let mut out = output(rt)?;
@@ -136,7 +151,7 @@ pub(crate) fn came_to<'a>(end: Option<EarlyEnd>) -> Result<(), RunFault<'a>> {
 /// Runs a call with an image on a kernel of whose VM file no block is locked.
 fn run_call_in<W: Write, D: Device + Drop>(
     rt: &HostRuntime,
-    form: &OutputForm,
+    manner: &Manner,
     image: &[u8],
     call: &CallWords<'_>,
     kernel: &mut Kernel<D>,
@@ -146,10 +161,15 @@ fn run_call_in<W: Write, D: Device + Drop>(
 {
     let alloc = rt.alloc();
     let CallWords { name, words } = call;
-    if form.is_plain() {
+    if is_shown(rt) {
+        let options = options_of(manner, ProgressLine::new(rt));
+        return run_call_in_form(alloc, options, image, name, words, kernel, out);
+    }
+    if manner.form.is_plain() {
         return run_call(alloc, image, name, words, kernel, out);
     }
-    run_call_in_form(alloc, form_of(form), image, name, words, kernel, out)
+    let options = options_of(manner, Unwatched);
+    run_call_in_form(alloc, options, image, name, words, kernel, out)
 }
 
 /// Whether a word of a call is `@` and a handle.
@@ -201,11 +221,11 @@ pub(crate) fn run_call_on<'a, D: Device + Drop>(
 ) -> Result<(), RunFault<'a>>
     requires { NoneLocked kernel.old.core.blocks }
 {
-    if manner.json {
+    if manner.reports.json {
         return print_call_objects(rt, image, call, kernel);
     }
     let mut out = output(rt)?;
-    let refused = match run_call_in(rt, &manner.form, image, call, kernel, &mut out) {
+    let refused = match run_call_in(rt, manner, image, call, kernel, &mut out) {
         Ok(refused) => refused,
         Err(fault) => return Err(call_fault(call, fault)),
     };

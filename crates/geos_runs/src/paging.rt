@@ -62,9 +62,9 @@ pub(crate) fn page_on<'a, D: Device + Drop>(
     requires { NoneLocked kernel.old.core.blocks }
 {
     let alloc = rt.alloc();
-    let most = words.steps.min(MOST_STEPS);
-    let mut notes = Notes::new(alloc, most);
-    let noted = noted_call(words, traceable.image, most as usize);
+    let last = words.steps.min(words.skipped.saturating_add(MOST_STEPS));
+    let mut notes = Notes::new(alloc, words.skipped, last);
+    let noted = noted_call(words, traceable.image, last as usize);
     let traced = match trace_call_watched(alloc, &noted, kernel, &mut notes) {
         Ok(traced) => traced,
         Err(fault) => return Err(trace_fault(words, fault)),

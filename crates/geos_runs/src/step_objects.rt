@@ -1,6 +1,7 @@
 //! The notes on a run as JSON objects.
 
 use crate::objects::put_outcome;
+use crate::tracing::steps_shown;
 use geos_cli::TracedCall;
 use geos_image::{Image, Instr};
 use geos_json::JsonLines;
@@ -101,8 +102,8 @@ pub(crate) fn trace_objects(
             traced.put_count(&mut objects, pc, call.trace.count(pc))?;
         }
     } else {
-        let mut number: u64 = 0;
-        for noted in call.trace.steps() {
+        let mut number = u64::from(words.skipped);
+        for noted in steps_shown(words, call) {
             number = number.saturating_add(1);
             traced.put_step(&mut objects, number, noted)?;
         }

@@ -8,8 +8,11 @@ use crate::fault::RunFault;
 use geos_cli::ScriptFault;
 use geos_files::{FileFault, Locked, lock_to_read, opened};
 use geos_kernel::{Kernel, kernel_in_memory};
-use geos_shell::{Named, print, print_lines, read};
+use geos_shell::{
+    Named, Reason, StreamFault, TestRequest, are_one_file_read, print, print_lines, read, write,
+};
 use script_tests::{Tested, test_script};
+use sentence_text::Text;
 use std::alloc::Global;
 use vm_file::{Device, Disk, MemoryDevice, OpenError, VmFile};
 
@@ -128,27 +131,58 @@ fn test_one<'a>(
     }
 }
 
-/// Runs test scripts one after another, each on a new VM file in memory, or on a copy of the VM file with the path `file`. `region` is the
-/// number of bytes for blocks in memory. Prints a line for each line that failed, and then how many passed and failed. Returns whether none
-/// failed, and none is bad.
+/// A fault if the file with the path `out` is the script.
+fn keep_script<'a>(
+    rt: &HostRuntime,
+    out: Option<&'a str>,
+    script: &str,
+) -> Result<(), RunFault<'a>> {
+    match out {
+        Some(out) if are_one_file_read(rt, out, script) => {
+            Err(RunFault::Stream(StreamFault::Write(out, Reason::IN_USE)))
+        }
+        _ => Ok(()),
+    }
+}
+
+/// Writes the suites of JUnit XML to the path `out`.
+fn write_suites<'a>(
+    rt: &HostRuntime,
+    out: &'a str,
+    mut suites: Text,
+    image: &str,
+) -> Result<(), RunFault<'a>> {
+    suites.put("</testsuites>\n");
+    match suites.finish() {
+        Ok(suites) => Ok(write(rt, out, &suites, image)?),
+        Err(_) => Err(RunFault::Session(ScriptFault::Memory)),
+    }
+}
+
+/// Runs test scripts one after another, each on a new VM file in memory, or on a copy of a VM file. Prints a line for each line that failed,
+/// and then how many passed and failed; then writes JUnit XML if a path is given for it. Returns whether none failed, and none is bad.
+///
+/// `StreamFault::Write` if the path leads to one of the scripts.
 pub fn test<'a>(
     rt: &HostRuntime,
     image: &[u8],
-    scripts: &[&'a str],
-    file: Option<&'a str>,
-    region: u32,
+    request: &TestRequest<'a>,
 ) -> Result<bool, RunFault<'a>>
-    requires { IsRegion region }
+    requires { IsRegion request.now.region }
 {
-    let copied = match file {
+    let copied = match request.file {
         Some(path) => Some(Contents::of_file(rt, path)?),
         None => None,
     };
     let (mut passed, mut failed) = (0usize, 0usize);
     let mut is_bad = false;
-    for script in scripts {
-        let tested = test_one(rt, image, *script, &copied, region)?;
+    let mut suites = Text::new(rt.alloc());
+    suites.put("<?xml version=\"1.0\" encoding=\"UTF-8\"?>\n<testsuites>\n");
+    for script in &request.scripts {
+        keep_script(rt, request.junit, *script)?;
+        let tested = test_one(rt, image, *script, &copied, request.region)?;
         print_lines(rt, &tested.told)?;
+        suites.put_bytes(&tested.suite);
         passed = passed.saturating_add(tested.passed);
         failed = failed.saturating_add(tested.failed);
         is_bad = is_bad || tested.is_bad;
@@ -156,6 +190,9 @@ pub fn test<'a>(
     match format!(in rt.alloc(); "{passed} passed, {failed} failed\n") {
         Ok(ending) => print(rt, ending.as_bytes())?,
         Err(_) => return Err(RunFault::Session(ScriptFault::Memory)),
+    }
+    if let Some(out) = request.junit {
+        write_suites(rt, out, suites, request.image)?;
     }
     Ok(failed == 0 && !is_bad)
 }

@@ -12,7 +12,8 @@ use geos_cli::{NotedCall, ScriptFault, TraceFault, TracedCall, trace_call};
 use geos_files::{Locked, opened, wait_for};
 use geos_image::Image;
 use geos_kernel::{Kernel, kernel_in_memory};
-use geos_shell::{Lockable, Sharing, TraceWords, print};
+use geos_machine::Noted;
+use geos_shell::{Lockable, Room, Sharing, TraceWords, print};
 use geos_trace::{put_counts, put_end, put_refused, put_steps};
 use line_marks::Origin;
 use std::alloc::{AllocError, Global};
@@ -27,8 +28,8 @@ pub struct Traceable<'a> {
     pub origins: Option<&'a [Origin<'a>]>,
     /// What a page shows of them, if one is required.
     pub shown: Option<Shown<'a>>,
-    /// How many bytes more than before the blocks in memory may have.
-    pub most_bytes: u32,
+    /// What blocks in memory may take.
+    pub room: Room,
     /// Whether JSON objects are printed.
     pub json: bool,
 }
@@ -40,6 +41,15 @@ pub(crate) fn budget_of(image: &Image, routine: u16) -> u32 {
     } else {
         0
     }
+}
+
+/// The steps that are shown of those that were noted.
+pub(crate) fn steps_shown<'t>(words: &TraceWords<'_>, traced: &'t TracedCall) -> &'t [Noted] {
+    traced
+        .trace
+        .steps()
+        .get(words.skipped as usize..)
+        .unwrap_or(&[])
 }
 
 /// What is printed of a call that was traced.
@@ -54,7 +64,7 @@ pub(crate) fn text_of(
     if words.count {
         put_counts(&mut out, image, origins, &traced.trace)?;
     } else {
-        put_steps(&mut out, image, origins, traced.trace.steps())?;
+        put_steps(&mut out, image, origins, steps_shown(words, traced))?;
     }
     put_end(&mut out, &traced.outcome, budget_of(image, traced.routine))?;
     Ok(out)
@@ -99,7 +109,8 @@ fn trace_on<'a, D: Device + Drop>(
 ) -> Result<(), RunFault<'a>>
     requires { NoneLocked kernel.old.core.blocks }
 {
-    kernel.limit(traceable.most_bytes);
+    kernel.limit(traceable.room.bytes);
+    kernel.limit_handles(traceable.room.handles);
     if let (Some(shown), Some(path)) = (&traceable.shown, words.page) {
         return page_on(rt, words, traceable, shown, path, kernel);
     }

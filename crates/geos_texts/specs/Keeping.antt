@@ -1,4 +1,4 @@
--- When routines keep to grants and to a number of steps.
+-- When routines stay within grants and within a number of steps.
 use Rattle.std.specs.Prelude.{◌≡◌, ℕ, List, Ok, Option}
 use Rattle.geos_image.specs.declared.routine.Routine.{Routine}
 use Rattle.geos_image.specs.Parts.{Parts}

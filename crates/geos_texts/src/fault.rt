@@ -9,7 +9,7 @@ use geos_input::ScriptFault;
 use geos_shell::{Diagnosed, Named, StreamFault};
 use geos_verify::Reject;
 use line_marks::LineMarks;
-use std::alloc::Global;
+use std::alloc::{AllocError, Global};
 use std::fmt::{self, Display, Formatter};
 use thiserror::Error;
 
@@ -24,7 +24,7 @@ pub struct FaultyText<'a> {
     pub marks: LineMarks,
     /// Its fault.
     pub fault: AssembleError,
-    /// What is said of the fault if the text has line marks.
+    /// The message of the fault, if the text has line marks.
     said: Option<String>,
 }
 
@@ -57,8 +57,12 @@ impl Display for FaultyText<'_> {
     }
 }
 
-/// What is said of a fault of a text with line marks. Nothing if the text has none, or if there is no memory.
-fn said_by_marks<F: Display>(alloc: Global, marks: &LineMarks, fault: &F) -> Option<String> {
+/// The message of a fault in a text with line marks. None if the text has none, or if there is no memory.
+pub(crate) fn said_by_marks<F: Display>(
+    alloc: Global,
+    marks: &LineMarks,
+    fault: &F,
+) -> Option<String> {
     if marks.is_empty() {
         return None;
     }
@@ -133,9 +137,15 @@ pub enum TextFault<'a> {
     /// The verifier refuses an image that was explained.
     #[error(transparent)]
     Explained(Reject),
-    /// What is said of a fault of a text with line marks.
+    /// The message of a fault in a text with line marks.
     #[error("{0}")]
     Marked(String),
+}
+
+impl From<AllocError> for TextFault<'_> {
+    fn from(_error: AllocError) -> Self {
+        TextFault::Stream(StreamFault::Memory)
+    }
 }
 
 impl<'a> TextFault<'a> {

@@ -7,6 +7,7 @@ mod budgets;
 mod commands;
 mod diagnostics;
 mod fault;
+mod files;
 mod grants;
 mod limited;
 mod no_rows;
@@ -15,9 +16,10 @@ mod runnable;
 mod sources;
 
 pub use fault::{FaultyText, Refused, TextFault};
+pub use files::uses_files;
 pub use limited::{Limited, Limits};
 pub use requests::{
-    KnownLines, assemble, assemble_all, budget, check, explain, explain_script, format,
+    KnownLines, MOST_READ, assemble, assemble_all, budget, check, explain, explain_script, format,
     known_at_lines, known_lines, list, read_and_warn, tell_warning,
 };
 pub use runnable::Runnable;

@@ -8,18 +8,18 @@ use crate::fault::TextFault;
 use crate::grants::{grants_in, keep_to_grants, keep_to_steps};
 use crate::runnable::Runnable;
 use geos_grants::Effects;
-use geos_shell::RunLimits;
+use geos_shell::{Room, RunLimits};
 use std::alloc::Global;
 
-/// What public routines may do, and how many steps and bytes they may take.
+/// What public routines may do, and what they may take.
 #[derive(Clone, Copy)]
 pub struct Limits<'a> {
     /// What they may do, if that is limited.
     pub grants: Option<Effects>,
     /// The highest budget that each may have, if that is limited.
     pub most_steps: Option<u32>,
-    /// How many bytes more than before the blocks in memory may have.
-    pub most_bytes: u32,
+    /// What blocks in memory may take.
+    pub room: Room,
     /// The name of the only routine that is called; none if any may be.
     pub called: Option<&'a [u8]>,
 }
@@ -46,7 +46,7 @@ impl<'a> Limits<'a> {
         Ok(Limits {
             grants,
             most_steps,
-            most_bytes: limits.most_bytes,
+            room: limits.room,
             called,
         })
     }

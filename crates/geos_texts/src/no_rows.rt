@@ -1,7 +1,7 @@
 //! Why no rows are found for a routine.
 
-use geos_causes::Cause;
 use geos_explain::explain_cause;
+use geos_flow::Cause;
 use geos_lines::tell_many_steps;
 use geos_source::Parsed;
 use std::alloc::{AllocError, Global};

@@ -20,7 +20,7 @@ use line_marks::{LineMarks, formatted};
 use std::alloc::{AllocError, Global};
 
 /// The most bytes that are read of a file: one more than a text may have, and more than any image has.
-pub(crate) const MOST_READ: u64 = MOST_BYTES as u64 + 1;
+pub const MOST_READ: u64 = MOST_BYTES as u64 + 1;
 
 /// Writes the image of an assembly text with all rows to the path `image`. `TextFault::TakesVersion2` if the text borrows a slot, and
 /// `TextFault::AllRowsOfSource` if `text` names a source; otherwise the faults of `assemble`.
@@ -74,14 +74,14 @@ pub fn assemble<'a>(
 /// Reports the warnings about a text, if they are required.
 fn warn(rt: &HostRuntime, reports: Reports, image: &Runnable<'_>) {
     if reports.warnings && !reports.json {
-        tell(rt, &image.warnings(rt.alloc()));
+        tell(rt, reports, &image.warnings(rt.alloc()));
     }
 }
 
 /// Reports a warning about the file with the path.
-pub fn tell_warning(rt: &HostRuntime, path: &str, advice: &Advice) {
+pub fn tell_warning(rt: &HostRuntime, reports: Reports, path: &str, advice: &Advice) {
     if let Ok(line) = warning_line(rt.alloc(), path, advice) {
-        tell(rt, &line);
+        tell(rt, reports, &line);
     }
 }
 
@@ -232,7 +232,7 @@ fn print_why<'a>(rt: &HostRuntime, text: &[u8], told: &[u8]) -> Result<(), Strea
     }
 }
 
-/// What is said of lines, which line marks name. Without marks it stays as it is.
+/// Replaces the lines in a message by those that line marks name. Without marks the message stays as it is.
 fn told_by_marks<'a>(
     alloc: Global,
     marks: &LineMarks,

@@ -2,6 +2,7 @@
 
 use crate::commands::{Made, NotMade, begins_as_image, image_of};
 use crate::fault::{FaultyText, TextFault, by_marks};
+use crate::files::{Joined, read_joined};
 use crate::requests::MOST_READ;
 use crate::sources::{compiled, is_source};
 use geos_asm::completed;
@@ -85,13 +86,18 @@ impl<'a> Runnable<'a> {
     /// `TextFault::Stream` if the path cannot be read, `TextFault::Source` if the source has a fault, and `TextFault::Assemble` if the text
     /// has no image.
     pub fn read(rt: &HostRuntime, path: &'a str) -> Result<Runnable<'a>, TextFault<'a>> {
-        Runnable::of(rt.alloc(), path, read(rt, path, MOST_READ)?)
+        let bytes = read(rt, path, MOST_READ)?;
+        if is_source(path) {
+            let Joined { text, marks } = read_joined(rt, path, bytes)?;
+            return compiled(rt.alloc(), path, &text, marks);
+        }
+        Runnable::of(rt.alloc(), path, bytes)
     }
 
-    /// The same of the bytes of what a path names.
+    /// The same of the bytes of what a path names, which is a source without the files that it uses.
     pub fn of(alloc: Global, path: &'a str, bytes: Vec<u8>) -> Result<Runnable<'a>, TextFault<'a>> {
         if is_source(path) {
-            return compiled(alloc, path, &bytes);
+            return compiled(alloc, path, &bytes, LineMarks::new(alloc));
         }
         let Ok(Unmarked { bytes, marks }) = Unmarked::completed(alloc, bytes) else {
             return Err(TextFault::Stream(StreamFault::Memory));

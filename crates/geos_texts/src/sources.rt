@@ -1,6 +1,6 @@
 //! Sources of the structured language, which the ending of their path tells.
 
-use crate::fault::TextFault;
+use crate::fault::{TextFault, by_marks, said_by_marks};
 use crate::runnable::Runnable;
 use geos_image::write;
 use geos_shell::Named;
@@ -24,30 +24,60 @@ pub struct FaultySource<'a> {
     pub column: usize,
     /// The fault, as a sentence after its line and column.
     pub sentence: Vec<u8>,
+    /// The files from which its lines come, if it uses some.
+    pub marks: LineMarks,
+    /// The message of the fault, if the source uses files.
+    said: Option<String>,
 }
 
 impl Display for FaultySource<'_> {
     fn fmt<W: fmt::Write>(&self, f: &mut Formatter<W>) -> fmt::Result {
-        match std::str::from_utf8(&self.sentence) {
-            Ok(sentence) => f.write_str(sentence),
-            Err(_) => f.write_str("a fault of the source"),
+        match &self.said {
+            Some(said) => f.write_str(said.as_str()),
+            None => f.write_str(sentence_of(&self.sentence)),
         }
     }
 }
 
-impl FaultySource<'_> {
+/// The sentence of a fault.
+fn sentence_of(sentence: &[u8]) -> &str {
+    std::str::from_utf8(sentence).unwrap_or("a fault of the source")
+}
+
+impl<'a> FaultySource<'a> {
+    /// The fault of the source with the path, at a line and a column of all its files.
+    pub(crate) fn new(
+        alloc: Global,
+        path: &'a str,
+        line: usize,
+        column: usize,
+        sentence: Vec<u8>,
+        marks: LineMarks,
+    ) -> FaultySource<'a> {
+        let said = said_by_marks(alloc, &marks, &sentence_of(&sentence));
+        FaultySource {
+            path,
+            line,
+            column,
+            sentence,
+            marks,
+            said,
+        }
+    }
+
     /// The fault as a diagnostic, `FILE:LINE:COLUMN: error: ..`. Empty if there is no memory.
     pub(crate) fn diagnostics(&self, alloc: Global) -> Vec<u8> {
-        let Ok(told) = std::str::from_utf8(&self.sentence) else {
-            return Vec::new(alloc);
-        };
+        let told = sentence_of(&self.sentence);
         let sentence = match told.split_once(": ") {
             Some((_place, sentence)) => sentence,
             None => told,
         };
         let (path, line, column) = (Named(self.path), self.line, self.column);
-        match format!(in alloc; "{path}:{line}:{column}: error: {sentence}\n") {
-            Ok(line) => line.into_bytes(),
+        let Ok(file) = format!(in alloc; "{path}") else {
+            return Vec::new(alloc);
+        };
+        match format!(in alloc; "{file}:{line}:{column}: error: {sentence}\n") {
+            Ok(line) => by_marks(alloc, &self.marks, &file, line.into_bytes()),
             Err(_) => Vec::new(alloc),
         }
     }
@@ -58,6 +88,7 @@ fn runnable<'a>(
     alloc: Global,
     path: &'a str,
     text: &[u8],
+    marks: LineMarks,
     compiled: &Compiled,
 ) -> Result<Runnable<'a>, AllocError> {
     Ok(Runnable {
@@ -65,18 +96,19 @@ fn runnable<'a>(
         image: write(alloc, compiled.checked.image())?,
         lines: Some(lines_of(alloc, text, &compiled.places)?),
         text: Vec::new(alloc),
-        marks: LineMarks::new(alloc),
+        marks,
     })
 }
 
-/// The image of a source. `TextFault::Source` if it has a fault.
+/// The image of a source, whose lines come from the files that the marks name. `TextFault::Source` if it has a fault.
 pub(crate) fn compiled<'a>(
     alloc: Global,
     path: &'a str,
     text: &[u8],
+    marks: LineMarks,
 ) -> Result<Runnable<'a>, TextFault<'a>> {
     let fault = match compile(alloc, text) {
-        Ok(compiled) => match runnable(alloc, path, text, &compiled) {
+        Ok(compiled) => match runnable(alloc, path, text, marks, &compiled) {
             Ok(runnable) => return Ok(runnable),
             Err(_) => return Err(TextFault::Read(geos_image::ReadError::Memory)),
         },
@@ -87,10 +119,5 @@ pub(crate) fn compiled<'a>(
         return Err(TextFault::Read(geos_image::ReadError::Memory));
     }
     let Place { line, column } = place_of(text, fault.at);
-    Err(TextFault::Source(FaultySource {
-        path,
-        line,
-        column,
-        sentence,
-    }))
+    Err(TextFault::Source(FaultySource::new(alloc, path, line, column, sentence, marks)))
 }

@@ -96,7 +96,7 @@ fn put_at(out: &mut JsonLines, at: Option<At<'_>>) {
     }
 }
 
-/// Where the line of a finding comes from, by the line marks of its file.
+/// The file and line of a finding, by the line marks of its file.
 fn place_of<'f>(finding: &Finding<'f, '_, '_>) -> Place<'f> {
     let line = finding.line.unwrap_or(0);
     match finding.marks {

@@ -22,7 +22,7 @@ const ORDERS: [&str; 20] = [
     "for ",
     "first ",
     "say ",
-    "ask ",
+    "require ",
     "on each path ",
     "lock ",
     "give ",
@@ -124,7 +124,7 @@ fn example_in(sentence: &str) -> Option<&str> {
     Some(example)
 }
 
-/// What helps, by a sentence: each part that says so, otherwise the example of a line, as `as CALL add`.
+/// The cures in a sentence: each part that names one, otherwise the example of a line, as `as CALL add`.
 pub(crate) fn cure(alloc: Global, message: &str) -> Result<String, AllocError> {
     let sentence = message.strip_prefix("no rows: ").unwrap_or(message);
     let mut cures = String::new(alloc);

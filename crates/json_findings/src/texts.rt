@@ -2,8 +2,8 @@
 
 use crate::finding::{Finding, Severity, put_finding, put_more};
 use geos_asm::{Unassembled, assemble_or_tell};
-use geos_causes::Cause;
 use geos_explain::explain_cause;
+use geos_flow::Cause;
 use geos_json::JsonLines;
 use geos_lines::{FaultyLines, faulty_lines, put_saying, tell_many_steps};
 use geos_source::Parsed;

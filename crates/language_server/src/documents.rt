@@ -2,7 +2,7 @@
 
 use std::alloc::Global;
 
-/// The most documents that are kept, and the most bytes of each.
+/// The maximum number of open documents, and of bytes of each.
 pub(crate) const MOST_DOCUMENTS: usize = 256;
 
 pub(crate) const MOST_BYTES: usize = 1_048_576;
@@ -49,7 +49,7 @@ impl Documents {
         self.open.retain(|document| document.uri.as_str() != uri)
     }
 
-    /// Keeps a document in the place of one with its name. It is not kept if as many are open as may be.
+    /// Stores a document, replacing the one with its name. Does nothing if the maximum number of documents is open.
     pub(crate) fn keep(&mut self, document: Document) {
         self.close(&document.uri);
         if self.open.len() < MOST_DOCUMENTS {

@@ -6,14 +6,16 @@ use crate::positions::{Span, line_of, put_range};
 use crate::reading::{Wanted, put_read};
 use crate::reply::Reply;
 use geos_json::JsonLines;
-use geos_texts::Runnable;
+use geos_texts::{Runnable, uses_files};
 use serde_json::Value;
 use std::alloc::{AllocError, Global};
 
-/// What is found in a document: the objects that `geos explain --json` prints, an object a line. Nothing of a document that is too long.
+/// What is found in a document: the objects that `geos explain --json` prints, an object a line. Nothing of a document that is too long,
+/// or of a source that uses files, since the server reads none.
 pub(crate) fn findings_of(alloc: Global, document: &Document) -> Result<Vec<u8>, AllocError> {
     let mut out = JsonLines::new(alloc);
-    if document.text.len() <= MOST_BYTES {
+    let needs_files = document.is_source() && uses_files(document.text.as_bytes());
+    if document.text.len() <= MOST_BYTES && !needs_files {
         let text = Vec::from_slice(alloc, document.text.as_bytes())?;
         let read = Runnable::of(alloc, &document.uri, text);
         let wanted = Wanted {

@@ -1,4 +1,4 @@
-//! What is said of a word, and of its line.
+//! The hover text of a word and of its line.
 
 use crate::documents::{Document, MOST_BYTES};
 use crate::names::word_at;
@@ -43,7 +43,7 @@ fn known_at(alloc: Global, document: &Document, line: usize) -> Result<String, A
     String::from_utf8_lossy(alloc, note.trim_ascii())
 }
 
-/// What is said of an instruction, also in small letters. Empty of any other word.
+/// The hover text of an instruction, in capital or small letters. Empty for any other word.
 fn topic_on(alloc: Global, word: &str) -> Result<&'static str, AllocError> {
     let upper = word.to_ascii_uppercase(alloc)?;
     Ok(topic(&upper).unwrap_or(""))

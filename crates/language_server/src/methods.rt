@@ -1,6 +1,6 @@
 //! The methods of the protocol that are served.
 
-/// What a message asks for or says.
+/// What a message requests or reports.
 #[derive(Clone, Copy)]
 pub(crate) enum Method {
     Initialize,

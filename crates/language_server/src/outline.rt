@@ -1,4 +1,4 @@
-//! Where names are defined and used, and what a document consists of.
+//! Definitions and uses of names, and the parts of a document.
 
 use crate::documents::Document;
 use crate::names::{NameKind, NameUse, code_of, name_at, names_in, word_at};

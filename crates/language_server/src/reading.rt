@@ -65,7 +65,7 @@ fn put_source(
         alloc,
         out,
         &Finding {
-            marks: None,
+            marks: marks_of(&fault.marks),
             severity: Severity::Error,
             file: fault.path,
             line: Some(fault.line as u64),

@@ -11,7 +11,7 @@ use std::alloc::{AllocError, Global};
 use std::fmt::{self, Display, Formatter};
 use std::io::{self, BufRead, Write};
 
-/// Why a server ends before the editor asks for it.
+/// Why a server ends before the editor requests it.
 #[derive(Drop)]
 pub enum ServeFault {
     /// What was read is no message: its header has no `Content-Length`, or one above 16,777,216.
@@ -44,7 +44,7 @@ impl Display for ServeFault {
     }
 }
 
-/// What an editor has told.
+/// What an editor has reported.
 #[derive(Drop)]
 struct Server {
     alloc: Global,
@@ -154,7 +154,7 @@ impl Server {
         Ok(())
     }
 
-    /// What a message is answered, empty if it wants no answer.
+    /// The answer to a message, empty if the message requires none.
     fn take(&mut self, body: &[u8]) -> Result<Vec<u8>, AllocError> {
         let mut out = Reply::new(self.alloc);
         match Value::from_slice(self.alloc, body) {

@@ -5,7 +5,7 @@ use crate::output::Output;
 use geos_text::{first_line, is_blank, without_comment};
 use std::alloc::{AllocError, Global};
 
-/// Where instructions begin, in bytes from the start of a line; and how far a tab goes.
+/// The column at which instructions begin, in bytes from the start of a line, and the width of a tab.
 const COLUMN: usize = 8;
 
 /// The column after bytes of a line, with tabs counted to the next multiple of 8.

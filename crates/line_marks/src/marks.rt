@@ -5,7 +5,7 @@ use geos_text::first_line;
 use std::alloc::{AllocError, Global};
 
 /// A line mark of a text.
-#[derive(Clone, Copy, Debug)]
+#[derive(Clone, Copy)]
 struct Marked {
     /// The number of its line in the text, from 1.
     at: u64,
@@ -25,7 +25,7 @@ pub struct Place<'a> {
 }
 
 /// The line marks of a text.
-#[derive(Debug, Drop)]
+#[derive(Drop)]
 pub struct LineMarks {
     /// In order.
     marks: Vec<Marked>,
@@ -84,6 +84,20 @@ impl LineMarks {
         Ok(true)
     }
 
+    /// The lines after the line with this number are those of the file with the name, from its first one; without a name, of the text itself.
+    /// `AllocError` if the allocator refuses memory.
+    pub fn begin_file(&mut self, at: u64, name: Option<String>) -> Result<(), AllocError> {
+        let file = match name {
+            Some(name) => {
+                self.files.push(name)?;
+                self.files.len().saturating_sub(1)
+            }
+            None => usize::MAX,
+        };
+        self.marks.push(Marked { at, next: 1, file })?;
+        Ok(())
+    }
+
     /// Whether the text has no line marks.
     pub fn is_empty(&self) -> bool {
         self.marks.is_empty()
@@ -105,7 +119,8 @@ impl LineMarks {
         }
     }
 
-    /// Where the line with this number in the text, from 1, comes from. A line before the first mark comes from the text itself.
+    /// The file and line from which a line of the text comes; lines count from 1. A line before the first mark comes
+    /// from the text itself.
     pub fn place(&self, line: u64) -> Place {
         let mut place = Place { file: None, line };
         for mark in &self.marks {

@@ -1,4 +1,4 @@
-//! What is said of the lines of a text, by its line marks.
+//! Sentences that name lines of a text by the file and line of its line marks.
 
 use crate::marks::{LineMarks, Place};
 use geos_text::number_up_to;
