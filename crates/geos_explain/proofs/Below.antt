@@ -1,4 +1,4 @@
--- What the proofs cite that stands in the crates below.
+-- The lemmas of lower crates that the proofs use.
 pub use Rattle.geos_flow.proofs.Choices.{elim_both}
 pub use Rattle.geos_flow.proofs.Deciding.{IsDecided, leads-or-not, below-or-not}
 pub use Rattle.geos_flow.proofs.Into.{replicate-at}

@@ -1,4 +1,4 @@
--- A row lacks nothing exactly where it fits.
+-- A row lacks nothing exactly if it fits.
 use Rattle.std.proofs.Common.{◌≡◌, ◌<◌, ◌≤◌, ℕ, zero, suc, Bool, true, false, cond, List, [], ◌∷◌, Option, Some, None, length, get_or, replicate, refl, sym, ap, ◌∙◌, arith}
 use Rattle.std.specs.Prelude.{◌&&◌, ◌↔◌, nat_le, ◌==◌}
 use Rattle.geos_explain.proofs.Below.{and_parts, eqb-true, nat_tests, Row, Pointer, SlotState, Empty, Mem, Vm, Db, zip2, all2, is_shaped, slot_fits, pointer_fits, pair_fits}
@@ -6,7 +6,7 @@ use Rattle.geos_explain.specs.Lacks.{lacking_bound, lacking_slot, lacking_pointe
 
 -- ---- Lists and tests, by index
 
--- something is so of each number below one
+-- a property holds of each number below one
 abbrev pub Each : ℕ → (ℕ → Type 0) → Type 0
 Each n P = (k : ℕ) → k < n → P k
 
@@ -24,11 +24,11 @@ same-of (x ∷ xs) d e (suc n) long each =
     let rest = same-of xs d e n (omega arith) (λ k lt. each (suc k) (omega arith)) in
     rw (first, rest) refl
 
--- a list has one thing n times exactly where that is its element at each index
+-- a list has the same element n times exactly if it is the element at each index
 pub same-each : {X : Type 0} (xs : List X) (d e : X) (n : ℕ) → length xs ≡ n → (xs ≡ replicate n d) ↔ Each n (λ k. get_or xs k e ≡ d)
 same-each xs d e n long = (λ same k lt. ap (λ ys. get_or ys k e) same ∙ same-within d e n k lt, same-of xs d e n long)
 
--- where a test holds of two lists, it does at an index
+-- if a test holds of two lists, it holds at an index
 test-at : {X Y : Type 0} (test : X → Y → Bool) (xs : List X) (ys : List Y) (d : X) (e : Y) (k : ℕ) → all2 test xs ys ≡ true
     → k < length xs → test (get_or xs k d) (get_or ys k e) ≡ true
 test-at test [] ys d e k all lt = absurd (omega arith)
@@ -36,7 +36,7 @@ test-at test (x ∷ xs) [] d e k all lt = absurd cc
 test-at test (x ∷ xs) (y ∷ ys) d e zero all lt = (and_parts (test x y) (all2 test xs ys) all).0
 test-at test (x ∷ xs) (y ∷ ys) d e (suc k) all lt = test-at test xs ys d e k ((and_parts (test x y) (all2 test xs ys) all).1) (omega arith)
 
--- and where it does at each index, it holds of the lists
+-- if it holds at each index, it holds of the lists
 test-of : {X Y : Type 0} (test : X → Y → Bool) (xs : List X) (ys : List Y) (d : X) (e : Y) → length xs ≡ length ys
     → Each (length xs) (λ k. test (get_or xs k d) (get_or ys k e) ≡ true) → all2 test xs ys ≡ true
 test-of test [] [] d e same each = refl
@@ -47,7 +47,7 @@ test-of test (x ∷ xs) (y ∷ ys) d e same each =
     let rest = test-of test xs ys d e (omega arith) (λ k lt. each (suc k) (omega arith)) in
     rw (first, rest) refl
 
--- what is so at each index exactly where a test is, is so of all exactly where it holds of the lists
+-- a property that holds at each index exactly if a test does, holds everywhere exactly if the test holds of the lists
 pub each-tests : {X Y : Type 0} (P : ℕ → Type 0) (test : X → Y → Bool) (xs : List X) (ys : List Y) (d : X) (e : Y) (n : ℕ) → length xs ≡ n
     → length ys ≡ n → Each n (λ k. P k ↔ (test (get_or xs k d) (get_or ys k e) ≡ true)) → Each n P ↔ (all2 test xs ys ≡ true)
 each-tests P test xs ys d e n long same is = (
@@ -68,7 +68,7 @@ zip2-length f [] ys same = refl
 zip2-length f (x ∷ xs) [] same = absurd (omega arith)
 zip2-length f (x ∷ xs) (y ∷ ys) same = ap suc (zip2-length f xs ys (omega arith))
 
--- it gives one thing n times exactly where it does at each index
+-- the operation returns the same element n times exactly if it does so at each index
 pub zip-each : {X : Type 0} (f : X → X → X) (xs ys : List X) (d e : X) (n : ℕ) → length xs ≡ n → length ys ≡ n
     → (zip2 f xs ys ≡ replicate n d) ↔ Each n (λ k. f (get_or xs k e) (get_or ys k e) ≡ d)
 zip-each f xs ys d e n long same =
@@ -77,7 +77,7 @@ zip-each f xs ys d e n long same =
       λ all. each.1 (λ k lt. zip2-get f xs ys e k (omega arith) (omega arith) ∙ all k lt),
     )
 
--- and so exactly where a test holds of the lists
+-- and exactly if a test holds of the lists
 zip-tests : {X : Type 0} (f : X → X → X) (test : X → X → Bool) (xs ys : List X) (d e : X) (n : ℕ) → length xs ≡ n → length ys ≡ n
     → Each n (λ k. (f (get_or xs k e) (get_or ys k e) ≡ d) ↔ (test (get_or xs k e) (get_or ys k e) ≡ true))
     → (zip2 f xs ys ≡ replicate n d) ↔ (all2 test xs ys ≡ true)
@@ -86,14 +86,14 @@ zip-tests f test xs ys d e n long same is =
     let tests = each-tests (λ k. f (get_or xs k e) (get_or ys k e) ≡ d) test xs ys e e n long same is in
     (λ all. tests.0 (each.0 all), λ all. each.1 (tests.1 all))
 
--- ---- What is lacking
+-- ---- The missing items
 
--- what is wanted where a test fails is chosen exactly there
+-- a choice by a test is `none` exactly if the test is true, given that `wanted` is another value if the test is false
 chosen : {X : Type 0} (b : Bool) (none wanted : X) → (b ≡ false → wanted ≡ none → ⊥) → (cond b none wanted ≡ none) ↔ (b ≡ true)
 chosen true none wanted named = (λ same. refl, λ so. refl)
 chosen false none wanted named = (λ same. absurd (named refl same), λ so. absurd cc)
 
--- a bound is kept exactly where none is lacking
+-- no bound is missing exactly if the known bound implies the required one
 bound-kept : (known wanted : ℕ) → known ≤ 65535 → (lacking_bound known wanted ≡ 65535) ↔ (nat_le known wanted ≡ true)
 bound-kept known wanted most = chosen (nat_le known wanted) 65535 wanted (λ not_so same. named not_so same)
   where
@@ -102,7 +102,7 @@ bound-kept known wanted most = chosen (nat_le known wanted) 65535 wanted (λ not
         let below : wanted < known = grind (arith, nat_tests) in
         omega arith
 
--- so is a pair known as is wanted
+-- no pair is missing exactly if the known pair meets the required one
 pair-met : (known wanted : Bool) → (lacking_pair known wanted ≡ false) ↔ (pair_fits known wanted ≡ true)
 pair-met true wanted = (λ none. refl, λ fit. refl)
 pair-met false false = (λ none. refl, λ fit. refl)

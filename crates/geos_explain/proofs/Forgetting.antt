@@ -1,4 +1,4 @@
--- A call that is said to forget an item does.
+-- The call that `forgetting_call` returns forgets the item.
 use Rattle.std.proofs.Common.{◌≡◌, ◌+◌, ◌≤◌, ℕ, zero, suc, Bool, true, false, not, Option, Some, None, slice_get, refl, subst, arith}
 use Rattle.std.specs.Prelude.{◌&&◌}
 use Rattle.geos_explain.proofs.Below.{and_parts, cond_both, not-true, KnownPlace, places, start_of, after, has_edge, Edge, Back, end_of, elim_both}
@@ -54,7 +54,7 @@ module _ (place : Place) (item : Item) where
         back = lacked-from from place.pc round;
       }))
 
--- of the routine's instructions, the last of which something is so
+-- if `last_of` returns an instruction of the routine, the predicate holds for it
 last-of : (place : Place) (is : ℕ → Bool) (from n : ℕ) → n ≤ place.routine.count → last_of place is n ≡ Some from
     → (is from ≡ true) × IsInside place from
 unfolding last_of

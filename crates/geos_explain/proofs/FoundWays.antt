@@ -1,4 +1,4 @@
--- A way that is found is as was sought.
+-- An edge or entry that the search finds is one that it searched for.
 use Rattle.std.proofs.Common.{◌≡◌, ◌<◌, ◌⊎◌, ℕ, Bool, true, false, not, Option, Some, None, length, slice_get, refl, ap, ◌∙◌, inl, inr}
 use Rattle.std.specs.Prelude.{◌&&◌}
 use Rattle.geos_explain.proofs.Below.{and_parts, KnownPlace, places, pointer_at, after, has_edge, Edge, end_in, IsFirstInto, IsInto, elim_both}
@@ -11,7 +11,7 @@ use Rattle.geos_explain.specs.Ways.{is_as, is_as_sought, is_sought}
 use Rattle.geos_explain.specs.Lost.{IsOwn, NoWay, FindsWay, IsBringing, IsSought, IsWay}
 use Rattle.geos_explain.proofs.Comes.{known-end, end-known}
 
--- an edge that is sought leads as is asked
+-- an edge that satisfies the test of the search leads to the pc as required
 pub edge-sought : (place : Place) (sought : Sought) (to : ℕ) (edge : Edge) → end_in place.image edge ≡ Some to → is_sought place sought edge ≡ true
     → IsSought place sought to (Along edge)
 unfolding is_sought
@@ -27,7 +27,7 @@ edge-sought place sought to edge ends = elim_both (slice_get (places place.image
     let end = known-end place.image edge point to e ends in
     (record { point = point; there = e; has = second.1; ends = end.1; is = last.1 }, second.0)))
 
--- and an edge of the routine that leads so is sought
+-- an edge of the routine that leads to the pc as required satisfies the test of the search
 sought-edge : (place : Place) (sought : Sought) (to : ℕ) (edge : Edge) → to < length place.image.points → IsOwn place (Along edge)
     → IsSought place sought to (Along edge) → IsInto place.image (λ edge end. is_sought place sought edge) to edge
 unfolding is_sought
@@ -44,7 +44,7 @@ sought-edge place sought to edge low own is =
           ∙ leads.is;
     }
 
--- where none is found, there is none
+-- if the search finds none, none exists
 pub none-sought : (place : Place) (sought : Sought) (to : ℕ) → to < length place.image.points → (IsWay place sought.p sought.known Entry to → ⊥)
     → IsFirstInto place.image (λ edge end. is_sought place sought edge) to None → NoWay place (λ way. IsSought place sought to way)
 none-sought place sought to low not_entry first Entry own is = not_entry is
@@ -53,7 +53,7 @@ none-sought place sought to low not_entry first (Along edge) own is =
     let none = found.1 in
     absurd cc
 
--- what was sought as what brings a pointer does
+-- what the search for a bringing edge or entry finds brings the pointer
 pub found-bringing : (place : Place) (p to : ℕ) (o : Option Way)
     → FindsWay place (λ way. IsSought place (record { p = p; known = true; reached = is_reached place.image place.pc }) to way) o
     → FindsWay place (λ way. IsBringing place p to way) o
@@ -75,12 +75,12 @@ module _ (place : Place) (p to : ℕ) where
   abbrev LosingIn : Bool → Way → Type 0
   LosingIn reached way = IsSought place (record { p = p; known = false; reached = reached }) to way
 
-  -- what was sought as what does not bring it does not
+  -- what the search for a losing edge or entry finds does not bring the pointer
   pub sought-losing : (reached : Bool) (way : Way) → LosingIn reached way → IsWay place p false way to
   sought-losing reached Entry found = found
   sought-losing reached (Along edge) found = found.0
 
-  -- where it was sought from where control comes, and from elsewhere
+  -- the search first looks at edges from where control comes, then at the others
   pub found-losing : (reached : Bool) (o : Option Way) → NoWay place (LosingIn reached) → FindsWay place (LosingIn (not reached)) o
       → FindsWay place (λ way. IsWay place p false way to) o
   found-losing reached (Some way) first found = sought-losing (not reached) way found

@@ -1,4 +1,4 @@
--- What is said of a slot that is held is so, and all that is so is said.
+-- The report about a locked slot is true and complete.
 use Rattle.std.proofs.Common.{◌≡◌, ◌+◌, ◌-◌, ◌<◌, ◌≤◌, ℕ, zero, suc, Bool, true, false, not, cond, Some, slice_get, refl, sym, ◌∙◌, subst, inl, inr, arith, Option, None, ap}
 use Rattle.std.specs.Prelude.{◌&&◌, ◌↔◌, nat_le, nat_lt, IfSome, is_some}
 use Rattle.geos_explain.proofs.Below.{and_parts, and_from, or_cases, or_left, or_right, not-true, not_from_false, cases_lt, le-leb, leb-true, lt-ltb, ltb-true, KnownPlace, places, start_of, after, has_edge, Edge, Back, end_of, elim_both}
@@ -20,7 +20,7 @@ module _ (place : Place) (a : ℕ) where
   abbrev edge_at : ℕ → Bool → Edge
   edge_at from branch = record { from = from; branch = branch }
 
-  -- what is said of the caller and the first n instructions of the routine is so, and is all
+  -- the report about the caller and the first n instructions of the routine is true and complete
   record Said (n : ℕ) (entry : Bool) (from : Option ℕ) (again : Bool) : Type 0 where
     by_caller : (entry ≡ true) ↔ IsSinceEntry place a
     named : IfSome from (λ k. IsSince place a k)
@@ -31,7 +31,7 @@ module _ (place : Place) (a : ℕ) where
   abbrev SaidOf : ℕ → Since → Type 0
   SaidOf n since = Said n since.entry since.from since.again
 
-  -- of two instructions one is named
+  -- one of two instructions is named
   two-said : (n last : ℕ) (entry : Bool) (b : Bool) → (entry ≡ true) ↔ IsSinceEntry place a → last < start + n → IsSince place a last
       → IsSince place a (start + n) → Said (suc n) entry (Some (cond b (start + n) last)) true
   two-said n last entry true caller less was here = record {
@@ -49,7 +49,7 @@ module _ (place : Place) (a : ℕ) where
     once = λ wrong. absurd cc;
   }
 
-  -- one more is so
+  -- adds an instruction that locked the slot
   more-said : (n : ℕ) (entry : Bool) (from : Option ℕ) (again : Bool) → Said n entry from again → IsSince place a (start + n)
       → Said (suc n) entry (Some (named_of place.pc from (start + n))) (is_some from)
   more-said n entry None true said here = let wrong = (said.more refl).2 in absurd cc
@@ -65,7 +65,7 @@ module _ (place : Place) (a : ℕ) where
   }
   more-said n entry (Some last) again said here = two-said n last entry (nat_lt (start + n) place.pc) said.by_caller said.before said.named here
 
-  -- no more is so
+  -- adds an instruction that did not lock the slot
   no-more : (n : ℕ) (entry : Bool) (from : Option ℕ) (again : Bool) → Said n entry from again → (IsSince place a (start + n) → ⊥)
       → Said (suc n) entry from again
   no-more n entry from again said none = record {

@@ -1,4 +1,4 @@
--- What the search for why a pointer is not known finds is so.
+-- The search's reason why a pointer is not known is true.
 use Rattle.std.proofs.Common.{is_some, ◌≡◌, ◌⊎◌, ℕ, Bool, true, false, List, Option, Some, None, slice_get, refl, sym, subst, inl, inr}
 use Rattle.std.specs.Prelude.{IfSome}
 use Rattle.geos_explain.proofs.Below.{option_or, KnownPlace, places, after, has_edge, Edge, no_marks, marked, Has, mark-was, none-marked}
@@ -13,12 +13,12 @@ use Rattle.geos_explain.specs.Ways.{empty_slot, empty_along, empty_from, empty_o
 use Rattle.geos_explain.specs.Lost.{LacksFrom, FindsWay, IsBringing, IsWay, NoWay, BringsNowhere, AreWays, IsFinding, IsOpen, IsSound}
 use Rattle.geos_explain.proofs.Arriving.{cond-some}
 
--- of two things, if there are such, the first
+-- the first of two options, if it has a value, otherwise the second
 pub either-one : {X : Type 0} (P : X → Type 0) (a b : Option X) → IfSome a P → IfSome b P → IfSome (option_or a b) P
 either-one P None b first second = second
 either-one P (Some x) b first second = first
 
--- where neither is there, the first is not
+-- if neither has a value, the first has none
 pub or-none : {X : Type 0} (a b : Option X) → option_or a b ≡ None → a ≡ None
 or-none None b is = refl
 or-none (Some x) b is = is
@@ -36,20 +36,20 @@ module _ (place : Place) (p : ℕ) where
       let here : empty_along place.image p edge point ≡ Some slot = rw (there, empty_from) at e in
       (cond-some (has_edge point.instr edge.branch) (empty_slot (after place.image edge.from point.row edge.branch) p) slot here).1
 
-  -- a way that brings a pointer into an empty slot
+  -- an edge or the entry brings a pointer into an empty slot
   pub way-nowhere : (known : Bool) (to slot : ℕ) (way : Way) → IsWay place p known way to → empty_on place p way ≡ Some slot
       → BringsNowhere place p way slot to
   way-nowhere known to slot Entry is e = (is.0, e)
   way-nowhere known to slot (Along edge) is e =
       record { point = is.point; there = is.there; has = is.has; ends = is.ends; empty = along-nowhere slot edge is.point is.there e }
 
-  -- one more place is passed, from where the pointer can be lacking
+  -- one more pc is passed, from which the pointer can be missing
   pub marks-more : (marks : List Bool) (at : ℕ) → ((pc : ℕ) → Has marks pc → LacksFrom place p pc) → LacksFrom place p at
       → (pc : ℕ) → Has (marked marks at) pc → LacksFrom place p pc
   marks-more marks at passed from pc h =
       elim (mark-was marks at pc h) [ inl same ↦ subst (LacksFrom place p) (sym same) from | inr was ↦ passed pc was ]
 
-  -- the place says nothing, where no ways meet there and no end is there
+  -- the place is open if the search finds neither a join nor an end there
   pub ways-open : (ways : FirstWays) (meeting : Option Meeting) (end : Option End) → ways.to ≡ place.pc → AreWays place p ways
       → (meeting ≡ None → (ways.known ≡ None) ⊎ (ways.lost ≡ None))
       → (end ≡ None → (edge : Edge) × (ways.lost ≡ Some (Along edge)) × (comes_alike place edge.from ≡ true))
@@ -66,7 +66,7 @@ module _ (place : Place) (p : ℕ) where
         alike = edge.2;
       }
 
-  -- where no place was passed
+  -- no pc was passed
   pub none-passed : (trace : Trace) → trace.passed ≡ no_marks → IsFinding place p trace.finding → IsSound place p trace
   none-passed trace is finds =
       record { passed = λ pc h. absurd (none-marked pc (subst (λ m. Has m pc) is h)); finds = finds }

@@ -1,4 +1,4 @@
--- Nothing is said against a public routine's rows exactly where a caller from outside may enter and leave by them.
+-- The rows of a public routine have no fault exactly if a caller from outside may enter and leave by them.
 use Rattle.std.proofs.Common.{◌≡◌, ◌<◌, ℕ, zero, suc, Bool, true, false, List, [], ◌∷◌, Option, Some, None, length, map, get_or, replicate, refl, ap, ◌∙◌, arith}
 use Rattle.std.proofs.lemmas.List.{length-map}
 use Rattle.std.specs.Prelude.{◌&&◌, ◌↔◌, ◌||◌, not}
@@ -145,7 +145,7 @@ pairs-one row six =
     (is_empty (get_or row.slots (get_or slot_pairs k (0, 0)).1 Empty)))) in
     (λ none. tests.0 (each.0 (items.0 none)), λ one. items.1 (each.1 (tests.1 one)))
 
--- a caller from outside may enter by an entry row exactly where nothing is said against it
+-- a caller from outside may enter by an entry row exactly if the row has no fault
 enters : (entry : Row) → HasLengths entry
     → ((own_slots entry ≡ open_row) × (marked_slots entry ≡ open_row) × (held_pairs entry ≡ open_row) × (known_pointers entry ≡ open_row))
     ↔ (may_enter entry ≡ true)

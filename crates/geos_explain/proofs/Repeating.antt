@@ -1,4 +1,4 @@
--- Which refusals are told once.
+-- Which refusals are reported only once.
 use Rattle.std.proofs.Common.{◌≡◌, ◌∙◌, ◌+◌, ◌<◌, ℕ, zero, suc, Bool, true, false, ◌&&◌, List, [], ◌∷◌, ◌++◌, length, get_or, slice_get, Option, Some, None, refl, sym, ap, subst, inl, inr, arith}
 use Rattle.std.specs.Prelude.{◌↔◌, not, is_none, is_some}
 use Rattle.geos_explain.proofs.Below.{and_parts, cases_lt, ltb-true, get_or_append_left, same_Some, slice_get_within, get_or-append_seam, Edge, end_in, IsFirstInto, IsInto, Row, Parts, KnownPlace, Rule, places, fits, places-length, fits-trans}
@@ -7,7 +7,7 @@ use Rattle.geos_explain.specs.Uses.{leading_nowhere}
 use Rattle.geos_explain.specs.Repeated.{brings, leads_ahead, names_empty_slot, is_of_empty_slot, ComesFromTold, IsRepeated, IsToldBefore, IsToldOnce, RepeatedIsToldBefore, TellsOnce}
 
 module _ (image : Parts) (refused : List (Option Rule)) (row : Row) (pc : ℕ) where
-  -- the edges that bring nothing that is told
+  -- the edges that bring no refusal that was reported
   abbrev others : Edge → ℕ → Bool
   others edge end = not (brings image refused row edge)
 
@@ -23,7 +23,7 @@ module _ (image : Parts) (refused : List (Option Rule)) (row : Row) (pc : ℕ) w
           let stands = none.first edge (into-other edge ends is) in
           let no : None ≡ Some stands.0 = stands.1 in absurd cc
 
-  -- that there is no other edge, and one ahead, is what was to be known
+  -- the search for another edge and for a forward edge decides the condition
   pub comes-from-told : (other ahead : Option Edge) → IsFirstInto image others pc other → IsFirstInto image leads_ahead pc ahead
       → ((is_none other && is_some ahead) ≡ true) ↔ ComesFromTold image refused row pc
   comes-from-told None (Some edge) no_other first = (
@@ -42,7 +42,7 @@ module _ (image : Parts) (refused : List (Option Rule)) (row : Row) (pc : ℕ) w
         let not_so : false ≡ true = sym (ap not told) ∙ into.is_counted in absurd cc,
   )
 
--- the same where it is known that there is no other edge, or one
+-- the same from the results of the two searches
 pub comes-where-none : (image : Parts) (refused : List (Option Rule)) (row : Row) (pc : ℕ) (other ahead : Option Edge)
     → IsFirstInto image (λ edge end. not (brings image refused row edge)) pc other → IsFirstInto image leads_ahead pc ahead
     → is_some other ≡ false → (is_some ahead ≡ true) ↔ ComesFromTold image refused row pc
@@ -55,7 +55,7 @@ pub comes-where-some : (image : Parts) (refused : List (Option Rule)) (row : Row
 comes-where-some image refused row pc None ahead no_other first some = absurd cc
 comes-where-some image refused row pc (Some edge) ahead other first some = comes-from-told image refused row pc (Some edge) ahead other first
 
--- where there is no place nothing is repeated
+-- if there is no place, nothing is repeated
 pub repeated-none : (image : Parts) (refused : List (Option Rule)) (pc : ℕ) → slice_get (places image) pc ≡ None
     → (false ≡ true) ↔ IsRepeated image refused pc
 repeated-none image refused pc none = (
@@ -63,7 +63,7 @@ repeated-none image refused pc none = (
   λ repeated. (let both : None ≡ Some repeated.known = sym none ∙ repeated.there in absurd cc),
 )
 
--- one more rule is told once
+-- adds the rule reported at one more pc
 pub one-once : (image : Parts) (refused told : List (Option Rule)) (pc : ℕ) (rule : Option Rule) → length told ≡ pc
     → ((k : ℕ) → k < pc → IsToldOnce image refused k (get_or told k None)) → IsToldOnce image refused pc rule
     → (k : ℕ) → k < pc + 1 → IsToldOnce image refused k (get_or (told ++ rule ∷ []) k None)
@@ -77,7 +77,7 @@ one-once image refused told pc rule long before here k lt = elim (cases_lt k pc)
       subst (λ r. IsToldOnce image refused k r) (sym seam) (subst (λ n. IsToldOnce image refused n rule) same here)
 ]
 
--- an edge that brings a row's pointers comes from a place that is refused for them
+-- an edge that brings a row's pointers comes from an instruction that is refused for them
 pub record Brings (image : Parts) (refused : List (Option Rule)) (row : Row) (from : ℕ) : Type 0 where
   known : KnownPlace
   there : slice_get (places image) from ≡ Some known
@@ -97,7 +97,7 @@ brings-from image refused row edge is = by_place (slice_get (places image) edge.
         let both = and_parts (names_empty_slot refused edge.from) (fits (leading_nowhere known.row) (leading_nowhere row)) is in
         record { known = known; there = there; is = both.0; same = both.1 }
 
--- what is repeated at one of the first n pcs is told before
+-- a refusal that is repeated at one of the first n pcs was reported before
 told-below : (image : Parts) (refused told : List (Option Rule)) → TellsOnce image refused told → (n pc : ℕ) → pc < n
     → (repeated : IsRepeated image refused pc) → IsToldBefore image told repeated.known.row pc
 told-below image refused told once zero pc lt repeated = absurd (omega arith)

@@ -1,4 +1,4 @@
--- What is said where a potential is above its budget is so.
+-- The reasons reported for a potential above its budget are true.
 use Rattle.std.proofs.Common.{◌≡◌, ◌+◌, ◌≤◌, ◌⊎◌, ℕ, zero, suc, Bool, true, false, not, Option, Some, None, slice_get, refl, subst, inl, inr, arith}
 use Rattle.std.specs.Prelude.{◌&&◌, nat_lt}
 use Rattle.std.proofs.lemmas.Bool.{eqb-true}
@@ -11,14 +11,14 @@ use Rattle.geos_explain.specs.Places.{Place, first_or, first_of}
 use Rattle.geos_explain.specs.Since.{IsInside}
 use Rattle.geos_explain.proofs.Holding.{inside-at}
 
--- what is found was found before, or is here
+-- what was found was found before, or is here
 first-or : (first : Option ℕ) (pc : ℕ) (here : Bool) (from : ℕ) → first_or first pc here ≡ Some from
     → (first ≡ Some from) ⊎ ((here ≡ true) × (pc ≡ from))
 first-or (Some before) pc here from is = inl is
 first-or None pc true from is = inr (refl, cc)
 first-or None pc false from is = absurd cc
 
--- of the routine's instructions, the first of which something is so
+-- if `first_of` returns an instruction of the routine, the predicate holds for it
 first-of : (place : Place) (is : ℕ → Bool) (from n : ℕ) → n ≤ place.routine.count → first_of place is n ≡ Some from
     → (is from ≡ true) × IsInside place from
 unfolding first_of
@@ -30,7 +30,7 @@ first-of place is from (suc n) short found =
       | inr here ↦ (subst (λ k. is k ≡ true) here.1 here.0, subst (IsInside place) here.1 (inside-at place 0 n (omega arith)))
     ]
 
--- a call of a routine that does not stand before is refused, whatever is known there
+-- a call of a routine that does not come earlier is refused, for every row
 ahead-refused : (image : Parts) (r : ℕ) (i : Instr) (row : Row) → calls i.opcode ≡ true → not (nat_lt i.imm r) ≡ true
     → call_misfits image r i row ≡ true
 unfolding call_misfits

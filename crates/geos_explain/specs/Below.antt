@@ -1,4 +1,4 @@
--- What the definitions speak of that stands in the crates below.
+-- The definitions of lower crates that this crate's definitions use.
 pub use Rattle.geos_flow.specs.Edges.{end_of, end_in}
 pub use Rattle.geos_flow.specs.Flow.{step_by, Leads as IsLedFrom, Leads}
 pub use Rattle.geos_flow.specs.Graphs.{IsInto}

@@ -1,5 +1,5 @@
--- Which budget serves a routine, which counters are still to pay at its beginning, from which a LOOP takes though nothing sets them, and
--- which is set to a word that may be any.
+-- Which routines no budget can serve; which counters must still pay at the entry although no instruction sets them
+-- before a LOOP takes from them; and which counters are set to an unbounded word.
 use Rattle.std.specs.Prelude.{◌≡◌, ℕ, Bool, true, false, ◌&&◌, not, nat_lt, Option, Some, None, slice_get, ◌==◌, slice_index}
 use Rattle.geos_explain.specs.Below.{Instr, Point, Row, KnownPlace, places, bound, call_misfits, calls, CounterUse, SetTo, SetToWord, CountsDown, facts, Parts, Edge, Ahead, step_by, Leads}
 use Rattle.geos_explain.specs.Places.{Place, first_of, is_inside}
@@ -25,32 +25,33 @@ pays_at image k pc = elim (slice_get image.points pc) [ None ↦ false | Some po
 abbrev pub leaves_alone : Instr → ℕ → Bool
 leaves_alone i k = not (takes (facts i.opcode).counter i k) && not (gives (facts i.opcode).counter i k)
 
--- an edge is one of the place's routine, its instruction leaves the counter alone, and behind it the counter still pays
+-- an edge of the place's routine whose instruction neither takes from the counter nor sets it, and at whose end the
+-- counter still pays
 unfoldable pub stays_unset : Place → ℕ → Edge → ℕ → Bool
 stays_unset place k edge end = elim (slice_get place.image.points edge.from) [
   | None ↦ false
   | Some point ↦ is_inside place edge.from && leaves_alone point.instr k && pays_at place.image k end
 ]
 
--- whether a way along such edges leads to a pc from the place
+-- whether a path along these edges leads from the place to a pc
 abbrev pub is_unset_at : Place → ℕ → ℕ → Bool
 is_unset_at place k pc = leads place.image Ahead (stays_unset place k) place.pc pc
 
--- such a way leads to an instruction that takes from the counter
+-- an instruction takes from the counter, and a path along these edges leads to it from the place
 unfoldable pub takes_at : Place → ℕ → ℕ → Bool
 takes_at place k from = elim (slice_get place.image.points from) [
   | None ↦ false
   | Some point ↦ is_unset_at place k from && takes (facts point.instr.opcode).counter point.instr k
 ]
 
--- the first instruction of the routine that takes from the counter, to which such a way leads
+-- the first instruction of the routine that takes from the counter and that such a path reaches
 abbrev pub unset_loop : Place → ℕ → Option ℕ
 unset_loop place k = first_of place (takes_at place k) place.routine.count
 
--- What is said, as a relation on ways
+-- The same statements as relations on paths
 
--- a way leads from the place to an instruction of its routine that takes from the counter, on which no instruction sets the
--- counter or takes from it, and on which the counter pays all along
+-- a path leads from the place to an instruction of its routine that takes from the counter. No instruction on the
+-- path sets the counter or takes from it, and the counter still pays everywhere on it
 pub record IsTakenUnset (place : Place) (k from : ℕ) : Type 0 where
   pub inside : IsInside place from
   pub point : Point
@@ -58,11 +59,11 @@ pub record IsTakenUnset (place : Place) (k from : ℕ) : Type 0 where
   pub does : takes (facts point.instr.opcode).counter point.instr k ≡ true
   pub way : Leads (step_by place.image Ahead (stays_unset place k)) place.pc from
 
--- an instruction that is named takes from a counter that nothing sets on a way there
+-- the instruction that `unset_loop` returns takes from a counter that nothing sets on some path to it
 abbrev pub WhatIsSaidOfCountersHolds : Type 0
 WhatIsSaidOfCountersHolds = (place : Place) (k from : ℕ) → unset_loop place k ≡ Some from → IsTakenUnset place k from
 
--- an instruction calls a routine that does not stand before that of the place
+-- an instruction calls a routine that does not come earlier in the image than the place's routine
 abbrev pub calls_on : Place → Instr → Bool
 calls_on place i = calls i.opcode && not (nat_lt i.imm place.r)
 
@@ -74,7 +75,7 @@ calls_on_at place from = elim (slice_get place.image.points from) [ None ↦ fal
 abbrev pub calling_on : Place → Option ℕ
 calling_on place = first_of place (calls_on_at place) place.routine.count
 
--- an instruction sets a counter to a word that may be any
+-- an instruction sets a counter to a word for which the row has no bound
 abbrev pub sets_to_any : CounterUse → Instr → Row → Bool
 sets_to_any SetToWord i row = bound row i.b == 65535
 sets_to_any _ i row = false
@@ -90,16 +91,16 @@ sets_to_any_at place from = elim (slice_get (places place.image) from) [
 abbrev pub setting_to_any : Place → Option ℕ
 setting_to_any place = first_of place (sets_to_any_at place) place.routine.count
 
--- What is said, as a relation
+-- The same statements as relations
 
--- the instruction at a pc of the routine is a call that the rule on calls refuses, whatever is known there and whatever the budget is
+-- the instruction at a pc of the routine is a call that the rule on calls refuses, for every row and every budget
 pub record IsNeverServed (place : Place) (from : ℕ) : Type 0 where
   pub inside : IsInside place from
   pub point : Point
   pub there : slice_get place.image.points from ≡ Some point
   pub refused : (row : Row) → call_misfits place.image place.r point.instr row ≡ true
 
--- the instruction at a pc of the routine sets a counter to a word of which nothing is known there
+-- the instruction at a pc of the routine sets a counter to a word for which the row has no bound
 pub record IsSetToAny (place : Place) (from : ℕ) : Type 0 where
   pub inside : IsInside place from
   pub known : KnownPlace
@@ -107,10 +108,10 @@ pub record IsSetToAny (place : Place) (from : ℕ) : Type 0 where
   pub sets : (facts known.instr.opcode).counter ≡ SetToWord
   pub any : bound known.row known.instr.b ≡ 65535
 
--- an instruction that is named is such a one
+-- the instruction that `setting_to_any` returns sets a counter to a word without a bound
 abbrev pub WhatIsSaidOfWordsHolds : Type 0
 WhatIsSaidOfWordsHolds = (place : Place) (from : ℕ) → setting_to_any place ≡ Some from → IsSetToAny place from
 
--- a call for which no budget is said to serve is one that is refused with each
+-- the call that `calling_on` returns is refused, so no budget serves the routine
 abbrev pub WhatIsSaidOfBudgetsHolds : Type 0
 WhatIsSaidOfBudgetsHolds = (place : Place) (from : ℕ) → calling_on place ≡ Some from → IsNeverServed place from

@@ -1,15 +1,15 @@
--- Whether ways lead from one pc to another, and which instructions control reaches.
+-- Whether a path leads from one pc to another, and which instructions control reaches.
 use Rattle.std.specs.Prelude.{◌≡◌, ◌<◌, ◌↔◌, ◌⊎◌, ℕ, zero, suc, Bool, true, false, ◌&&◌, ◌||◌, List, length, slice_get}
 use Rattle.std.proofs.Common.{inl, inr}
 use Rattle.geos_flow.proofs.Deciding.{below-or-not, leads-or-not}
 use Rattle.geos_explain.specs.Below.{option_map_or, Parts, start_of, has_place, Edge, Heading, Ahead, step_by, Leads, is_marked}
 
--- whether something is so, where that is decided
+-- the truth value of a decided proposition
 abbrev pub decided : {P : Type 0} → P ⊎ (P → ⊥) → Bool
 decided (inl so) = true
 decided (inr not_so) = false
 
--- whether steps along edges of an image that count lead from one pc to another
+-- whether a path of the image's edges that count leads from one pc to another
 unfoldable pub leads : Parts → Heading → (Edge → ℕ → Bool) → ℕ → ℕ → Bool
 leads image heading counts start pc = decided (leads-or-not image heading counts start pc)
 
@@ -30,11 +30,11 @@ stays image edge end = are_in_one image edge.from end (length image.routines)
 abbrev pub MarksStarts : Parts → ℕ → List Bool → Type 0
 MarksStarts image n marks = (pc : ℕ) → (is_marked marks pc ≡ true) ↔ ((r : ℕ) × (r < n) × (start_of image.routines r ≡ pc))
 
--- edges that stay in a routine lead to a pc from the first instruction of routine r
+-- a path that stays in routines leads to a pc from the first instruction of routine r
 abbrev pub LeadsFrom : Parts → ℕ → ℕ → Type 0
 LeadsFrom image pc r = Leads (step_by image Ahead (stays image)) (start_of image.routines r) pc
 
--- whether control reaches a pc: such edges lead there from the first instruction of some routine
+-- whether control reaches a pc: such a path leads to it from the first instruction of some routine
 unfoldable pub is_reached : Parts → ℕ → Bool
 is_reached image pc =
     decided (below-or-not (LeadsFrom image pc) (λ r. leads-or-not image Ahead (stays image) (start_of image.routines r) pc) (length image.routines))

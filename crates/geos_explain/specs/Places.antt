@@ -38,11 +38,11 @@ place_of place = record {
   potential = place.potential.now;
 }
 
--- something is so where it is wanted, and is not so where it is not
+-- the truth value is the wanted one
 abbrev pub agrees : Bool → Bool → Bool
 agrees wanted is = if wanted then is else not is
 
--- control reaches a pc just as it does the place
+-- control reaches a pc exactly if it reaches the place
 abbrev pub comes_alike : Place → ℕ → Bool
 comes_alike place pc = agrees (is_reached place.image place.pc) (is_reached place.image pc)
 
@@ -50,18 +50,18 @@ comes_alike place pc = agrees (is_reached place.image place.pc) (is_reached plac
 abbrev pub is_inside : Place → ℕ → Bool
 is_inside place pc = has_place (start_of place.image.routines place.r) place.routine.count pc
 
--- of the first n of them, the last of which something is so
+-- of the first n instructions of the routine, the last for which the predicate holds
 unfoldable pub last_of : Place → (ℕ → Bool) → ℕ → Option ℕ
 last_of place is zero = None
 last_of place is (suc n) =
     if is (start_of place.image.routines place.r + n) then Some (start_of place.image.routines place.r + n) else last_of place is n
 
--- the pc that was found before, or else this one where something is so
+-- the pc that was found before, otherwise this one if the predicate holds here
 abbrev pub first_or : Option ℕ → ℕ → Bool → Option ℕ
 first_or (Some first) pc here = Some first
 first_or None pc here = if here then Some pc else None
 
--- of the first n of them, the first of which something is so
+-- of the first n instructions of the routine, the first for which the predicate holds
 unfoldable pub first_of : Place → (ℕ → Bool) → ℕ → Option ℕ
 first_of place is zero = None
 first_of place is (suc n) =

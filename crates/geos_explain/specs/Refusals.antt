@@ -1,4 +1,4 @@
--- Which refusals are told at a place.
+-- Which refusals the explanation reports at an instruction.
 use Rattle.std.specs.Prelude.{◌≡◌, ◌↔◌, ℕ, ◌+◌, Bool, false, ◌&&◌, nat_le, ◌==◌, List, Option, Some}
 use Rattle.geos_explain.specs.Below.{Routine, Parts, start_of, KnownPlace, Rule, AreRefusals, refusal, HasPoint}
 use Rattle.geos_explain.specs.Repeated.{IsRepeated, TellsOnce}
@@ -8,8 +8,8 @@ use Rattle.geos_explain.specs.Told.{is_of_budget, rule_at}
 abbrev pub is_last : ℕ → Routine → ℕ → Bool
 is_last start routine pc = nat_le start pc && pc + 1 == start + routine.count
 
--- a rule is told at a place exactly where it is the lowest that refuses it, but for the rule on the budget, and for that on
--- empty slots where it is told before
+-- the explanation reports at a pc the lowest rule that refuses it. It does not report the rule on the budget there,
+-- nor the rule on empty slots if it has reported the same pointers before
 abbrev pub ToldWhereRefused : Type 0
 ToldWhereRefused =
     (image : Parts) (refused told : List (Option Rule)) → AreRefusals image refused → TellsOnce image refused told

@@ -1,5 +1,5 @@
--- Since where a slot is held at a place: from which instructions of its routine, or from the caller, a way leads there on which it
--- is held all along.
+-- The instructions of the routine (or the caller's entry) that locked a slot which is locked at a place: from each of
+-- them a path leads to the place on which the slot stays locked.
 use Rattle.std.specs.Prelude.{◌≡◌, ℕ, zero, suc, ◌+◌, Bool, true, false, ◌&&◌, ◌||◌, not, nat_lt, if◌then◌else◌, Some, None, slice_get, ◌↔◌, Option, IfSome, is_some}
 use Rattle.geos_explain.specs.Below.{KnownPlace, places, Row, start_of, after, has_edge, is_empty, slot_state, Edge, Back, end_of, step_by, Leads}
 use Rattle.geos_explain.specs.declared.since.Since.{Since}
@@ -7,78 +7,78 @@ use Rattle.geos_explain.specs.Led.{leads}
 use Rattle.geos_explain.specs.Lost.{ComesTo}
 use Rattle.geos_explain.specs.Places.{Place, comes_alike, is_inside}
 
--- the slot is held in a row
+-- the slot is locked in a row
 abbrev pub holds : Row → ℕ → Bool
 holds row a = not (is_empty (slot_state row a))
 
--- control comes along an edge of an instruction as it comes to the place, and the slot is held behind it
+-- control takes an edge of an instruction exactly if it reaches the place, and the slot is locked after the edge
 abbrev pub keeps_along : Place → ℕ → Edge → KnownPlace → Bool
 keeps_along place a edge point =
     comes_alike place edge.from && has_edge point.instr edge.branch && holds (after place.image edge.from point.row edge.branch) a
 
--- an edge is one of the place's routine, and on it the slot is held before it and behind it
+-- an edge of the place's routine before which and after which the slot is locked
 unfoldable pub stays_held : Place → ℕ → Edge → Bool
 stays_held place a edge = elim (slice_get (places place.image) edge.from) [
   | None ↦ false
   | Some point ↦ is_inside place edge.from && holds point.row a && keeps_along place a edge point
 ]
 
--- whether a way leads from a pc to the place on which the slot is held all along
+-- whether a path leads from a pc to the place on which the slot stays locked
 abbrev pub is_held_from : Place → ℕ → ℕ → Bool
 is_held_from place a pc = leads place.image Back (λ edge end. stays_held place a edge) place.pc pc
 
--- control comes along an edge so, and from its end such a way leads on
+-- control takes an edge, after which the slot is locked, and from its end such a path leads to the place
 abbrev pub leads_held : Place → ℕ → Edge → KnownPlace → Bool
 leads_held place a edge point = is_held_from place a (end_of edge point.instr) && keeps_along place a edge point
 
--- the same of one of an instruction's two edges
+-- the same for one of the two edges of an instruction
 abbrev pub leads_on : Place → ℕ → ℕ → KnownPlace → Bool
 leads_on place a from point =
     leads_held place a (record { from = from; branch = false }) point || leads_held place a (record { from = from; branch = true }) point
 
--- the slot is empty before an instruction, which leads on so
+-- an instruction fills the slot: the slot is empty before it, and after it such a path leads to the place
 unfoldable pub fills_at : Place → ℕ → ℕ → Bool
 fills_at place a from = elim (slice_get (places place.image) from) [
   | None ↦ false
   | Some point ↦ not (holds point.row a) && leads_on place a from point
 ]
 
--- of such an instruction that is named, if one is, and one more, the one that is named: the last in front of a pc, else the first
+-- which of two such instructions the explanation names: the last one before a pc, otherwise the first
 abbrev pub named_of : ℕ → Option ℕ → ℕ → ℕ
 named_of pc None from = from
 named_of pc (Some last) from = if nat_lt from pc then from else last
 
--- one more such instruction, if there is one
+-- adds an instruction, if it fills the slot, to what was found
 abbrev pub also : ℕ → Since → ℕ → Bool → Since
 also pc since from here =
     if here then record { entry = since.entry; from = Some (named_of pc since.from from); again = is_some since.from } else since
 
--- the caller has the slot held, and from the routine's beginning a way leads to the place so
+-- the caller passes the slot locked, and from the first instruction of the routine such a path leads to the place
 abbrev pub since_entry : Place → ℕ → Bool
 since_entry place a = holds place.routine.entry a && is_held_from place a (start_of place.image.routines place.r)
 
--- since where the slot is held at the place, of the caller and the first n instructions of the routine
+-- where the slot was locked: in the caller, or at one of the first n instructions of the routine
 unfoldable pub since_below : Place → ℕ → ℕ → Since
 since_below place a zero = record { entry = since_entry place a; from = None; again = false }
 since_below place a (suc n) =
     let from = start_of place.image.routines place.r + n in also place.pc (since_below place a n) from (fills_at place a from)
 
--- since where the slot is held at the place
+-- where the slot was locked: in the caller, or at an instruction of the routine
 abbrev pub held_since : Place → ℕ → Since
 held_since place a = since_below place a place.routine.count
 
--- What is said, as a relation on ways
+-- The same statements as relations on paths
 
 -- an instruction is one of the place's routine
 abbrev pub IsInside : Place → ℕ → Type 0
 IsInside place from = is_inside place from ≡ true
 
--- a way leads from a pc to the place on which the slot is held all along
+-- a path leads from a pc to the place on which the slot stays locked
 abbrev pub IsHeldFrom : Place → ℕ → ℕ → Type 0
 IsHeldFrom place a pc = Leads (step_by place.image Back (λ edge end. stays_held place a edge)) place.pc pc
 
--- the slot is empty before an instruction of the routine and held behind one of its edges, from where a way leads to the place on
--- which it is held all along
+-- an instruction of the routine locks the slot: the slot is empty before it and locked after one of its edges. From
+-- the end of this edge a path leads to the place on which the slot stays locked
 pub record IsSince (place : Place) (a from : ℕ) : Type 0 where
   pub inside : IsInside place from
   pub branch : Bool
@@ -88,13 +88,14 @@ pub record IsSince (place : Place) (a from : ℕ) : Type 0 where
   pub held : holds (after place.image from comes.point.row branch) a ≡ true
   pub way : IsHeldFrom place a to
 
--- the entry row has the slot held, and from the routine's beginning a way leads to the place on which it is held all along
+-- the entry row has the slot locked, and from the first instruction of the routine a path leads to the place on which
+-- it stays locked
 pub record IsSinceEntry (place : Place) (a : ℕ) : Type 0 where
   pub held : holds place.routine.entry a ≡ true
   pub way : IsHeldFrom place a (start_of place.image.routines place.r)
 
--- what is said of a slot is so, and all that is so is said: whether it is held since the caller; of the instructions since which it
--- is, one, if there are any; and whether there is another
+-- the report about a slot is true and complete: whether the caller locked it; one of the instructions that locked it,
+-- if any did; and whether another instruction did too
 pub record IsSaidOf (place : Place) (a : ℕ) (since : Since) : Type 0 where
   pub entry : (since.entry ≡ true) ↔ IsSinceEntry place a
   pub from : IfSome since.from (λ from. IsSince place a from)

@@ -11,6 +11,6 @@ last_begun image pc (suc n) = if nat_le (start_of image.routines n) pc then Some
 unfoldable pub is_line_of : List ℕ → ℕ → ℕ → Bool
 is_line_of table pc number = elim (slice_get table pc) [ None ↦ false | Some line ↦ line == number ]
 
--- the next instruction behind a line
+-- the pc after this one, if the instruction at this pc is of the line; otherwise this pc
 unfoldable pub next_pc : List ℕ → ℕ → ℕ → ℕ
 next_pc table pc number = if is_line_of table pc number && nat_lt pc 4096 then pc + 1 else pc

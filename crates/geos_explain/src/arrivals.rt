@@ -108,9 +108,9 @@ fn arrivals_at_entry(place: &Place, p: u8) -> Arrivals
     arrivals
 }
 
-/// What is known of the pointer on some way to each pc of the routine, along edges from where control comes as it comes to the
-/// place. What is known after an instruction is found at first, and again if more comes to it, which is once: so there are at
-/// most as many sweeps as the routine has instructions.
+/// What some path to each pc of the routine knows of the pointer, along edges that control takes exactly if it
+/// reaches the place. The loop computes what is known after each instruction, and again if more becomes known before
+/// it, which happens once. So there are at most as many sweeps as the routine has instructions.
 pub(crate) fn all_arrivals(place: &Place, p: u8) -> Arrivals
     ensures { AreHints (place_of place.now) p result }
 {

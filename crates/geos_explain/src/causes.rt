@@ -5,7 +5,7 @@ ghost use Rattle.geos_explain.specs.Causes.{is_refusable};
 
 use crate::phrases::Phrase;
 use crate::saying::{Fact, Saying, choose};
-use geos_causes::{
+use geos_flow::{
     Apart, BackWay, ByNumber, ByWord, Cause, Coming, Emptied, LoopOn, LoopPair, LoopRing, Within,
     slots_agree,
 };

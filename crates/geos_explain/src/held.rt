@@ -20,7 +20,7 @@ use geos_verify::{is_empty, is_of_file, slot_state};
 pub(crate) enum HeldAt {
     /// At a return, and the exit row has them empty.
     Return,
-    /// Where the VM file is written, and they hold blocks of the file.
+    /// At an instruction that writes the VM file: slots that have blocks of the file.
     Write,
 }
 
@@ -90,7 +90,7 @@ fn put_since_at(out: &mut Saying, which: HeldAt, place: &Place, a: u8) {
     put_held_wish(out, which, place, a, since.entry)
 }
 
-/// The row does not fit the exit row: slots are still locked, or else it requires more.
+/// The row does not fit the exit row: slots are still locked, or the exit row requires more.
 pub(crate) fn put_exit(out: &mut Saying, place: &Place) {
     let exit = &place.routine.exit;
     let before = out.len();

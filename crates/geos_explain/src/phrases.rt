@@ -418,7 +418,7 @@ const WORDS: [&str; 194] = [
     "## known at p#",
     "; no chunk is so long",
     "; say p#=s#:# in the in line",
-    "; ask for ## where p# is set",
+    "; require ## where p# is set",
     "; CHK w# # L before this bounds it",
     ", or # tests it",
 ];

@@ -201,7 +201,8 @@ fn put_meeting(out: &mut Saying, place: &Place, p: u8, m: Meeting) {
     put_way(out, place, Phrase::AndNotFrom, m.lost)
 }
 
-/// Where paths join of which one brings the pointer and another does not, and what lost the pointer, or why it is not known.
+/// Writes the join at which one path brings the pointer and another does not; then what lost the pointer, or why the
+/// row does not know it.
 fn put_finding(out: &mut Saying, place: &Place, p: u8, found: Finding)
     requires { IsFinding (place_of place.now) p found }
 {

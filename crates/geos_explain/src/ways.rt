@@ -199,8 +199,8 @@ impl<'a> Counting for Seeking<'a> {
     }
 }
 
-/// The first way that is sought: from the caller, if the pc is the routine's first, and the caller brings the pointer as is
-/// asked, or else from an instruction of the routine.
+/// The first edge to the pc that is searched for. If the pc is the routine's first, and the caller brings the pointer
+/// or not as required, it is the entry; otherwise an edge from an instruction of the routine.
 fn way_to(place: &Place, sought: Sought, to: u16) -> Option<Way>
     requires { to < length place.now.image.now.points }
     ensures { FindsWay (place_of place.now) (λ way. IsSought (place_of place.now) sought to way) result }

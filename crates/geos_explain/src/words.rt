@@ -145,7 +145,7 @@ fn put_exit_here(out: &mut Saying, place: &Place) {
     put_cures(out, place, &place.routine.exit)
 }
 
-/// What is wrong at the place, by the rule. Where no path leads, the instruction is to be taken out.
+/// Writes what is wrong at the place, by the rule. If no path leads to the instruction, the advice is to remove it.
 pub(crate) fn put_words(out: &mut Saying, place: &Place, rule: Rule) {
     match rule {
         Rule::LeavesRoutine => put_leaves(out, place),

@@ -72,8 +72,8 @@ Example: OUT w7 open_end    (in examples/accounts.asm)
 
 MNEW sa wb L
 makes a block, and locks it into sa; wb = its handle.
-It is refused, with the number in w7, and control goes to L: 5 (no handle is free); 4 (no
-room in the region).
+It is refused, with the number in w7, and control goes to L: 5 (all 1,024 handles are in
+use, or for MNEW all up to the host's limit); 4 (no room in the region).
 Example: MNEW s0 w0 e    (in examples/heap.asm)
 
 MLOCK sa wb L
@@ -146,8 +146,8 @@ It is refused, with the number in w7, and control goes to L: 2 (no chunk has thi
 Example: DEREF s0 p0 w5 2 undo    (in examples/accounts.asm)
 
 LCONTRACT sa
-compacts the block: one free chunk at its end, or none. It moves the chunks of the block:
-pointers to them become stale.
+moves the chunks together: at most one free chunk remains, at the block's end. It moves the
+chunks of the block: pointers to them become stale.
 
 LDB wa pb n
 wa = the byte at n of pb.
@@ -164,16 +164,17 @@ the word at n of pb = wa.
 Example: STW w1 p0 0    (in examples/accounts.asm)
 
 LDXB wa pb wc
-wa = the byte at wc of pb; the verifier requires that it lies within pb.
+wa = the byte at wc of pb; the verifier requires that this byte lies within pb.
 
 LDXW wa pb wc
-wa = the word at wc of pb, with the requirement of LDXB.
+wa = the word at wc of pb; the verifier requires that this word lies within pb.
 
 STXB wa pb wc
-the byte at wc of pb = the low byte of wa, with the requirement of LDXB.
+the byte at wc of pb = the low byte of wa; the verifier requires that this byte lies within
+pb.
 
 STXW wa pb wc
-the word at wc of pb = wa, with the requirement of LDXB.
+the word at wc of pb = wa; the verifier requires that this word lies within pb.
 
 LDCB wa pb wc L
 wa = the byte at wc of pb; the index is tested at run time.
@@ -207,7 +208,7 @@ MOVP pa pb
 pa = pb.
 
 COPY pa pb n
-copies the first n bytes of pb to pa; the two may overlap.
+copies the first n bytes of pb to pa; the bytes may overlap.
 Example: COPY p0 p1 2    (in examples/lend.asm)
 
 PLEN wa pb
@@ -279,8 +280,8 @@ Example: CARESIZE s0 w1 w4 w6 unlock    (in examples/index.asm)
 VNEW sa wb wc L
 makes a marked block of the file with user ID wc, and locks it into sa; wb = its handle.
 It is refused, with the number in w7, and control goes to L: 15 (the user ID is 65,280
-(groups), or a group is named instead of a block); 5 (no handle is free); 4 (no room in the
-region).
+(groups), or a group is named instead of a block); 5 (all 1,024 handles are in use, or for
+MNEW all up to the host's limit); 4 (no room in the region).
 Example: VNEW s0 w3 w0 not_made    (in examples/accounts.asm)
 
 VLOCK sa wb L
@@ -323,7 +324,7 @@ wa = the map block, or 0.
 Example: VGETMAP w0    (in examples/counter.asm)
 
 VSETMAP wa L
-makes the block wa the map block; 0 means no map block.
+makes the file's block wa the map block; 0 means no map block.
 It is refused, with the number in w7, and control goes to L: 1 (no block has this handle, or
 the block is no group and a group is required); 15 (the user ID is 65,280 (groups), or a
 group is named instead of a block).
@@ -332,30 +333,33 @@ Example: VSETMAP w0 undo    (in examples/counter.asm)
 VUPDATE L
 commits the current blocks; the saved blocks do not change.
 It is refused, with the number in w7, and control goes to L: 12 (an earlier commit failed at
-or after its write of the selector, so it is unknown what the device has; nothing more is
-written to it); 6 (the block would need more than 65,520 bytes, or the commit more than an
-area of the file); 13 (memory for writing the file was refused); 11 (the device failed).
+or after its write of the selector, so it is unknown which state the device has; nothing
+more is written to the device); 6 (the block would need more than 65,520 bytes, or the
+commit more than an area of the file); 13 (memory for writing the file was refused); 11 (the
+device failed).
 
 VSAVE L
 commits the current blocks, and makes them the saved blocks too.
 It is refused, with the number in w7, and control goes to L: 12 (an earlier commit failed at
-or after its write of the selector, so it is unknown what the device has; nothing more is
-written to it); 6 (the block would need more than 65,520 bytes, or the commit more than an
-area of the file); 13 (memory for writing the file was refused); 11 (the device failed).
+or after its write of the selector, so it is unknown which state the device has; nothing
+more is written to the device); 6 (the block would need more than 65,520 bytes, or the
+commit more than an area of the file); 13 (memory for writing the file was refused); 11 (the
+device failed).
 Example: VSAVE not_saved    (in examples/accounts.asm)
 
 VREVERT L
 commits the saved blocks, and makes them the current blocks again.
 It is refused, with the number in w7, and control goes to L: 12 (an earlier commit failed at
-or after its write of the selector, so it is unknown what the device has; nothing more is
-written to it); 6 (the block would need more than 65,520 bytes, or the commit more than an
-area of the file); 13 (memory for writing the file was refused); 11 (the device failed).
+or after its write of the selector, so it is unknown which state the device has; nothing
+more is written to the device); 6 (the block would need more than 65,520 bytes, or the
+commit more than an area of the file); 13 (memory for writing the file was refused); 11 (the
+device failed).
 Example: VREVERT not_made    (in examples/accounts.asm)
 
 GNEW wa L
-wa = a new group, marked and not locked.
-It is refused, with the number in w7, and control goes to L: 5 (no handle is free); 4 (no
-room in the region).
+makes a group, marked and not locked; wa = its handle.
+It is refused, with the number in w7, and control goes to L: 5 (all 1,024 handles are in
+use, or for MNEW all up to the host's limit); 4 (no room in the region).
 Example: GNEW w0 not_made    (in examples/notes.asm)
 
 GFREE wa L
@@ -450,8 +454,8 @@ Example: p0=s0:4 leads into an empty slot: lock a block into the slot first, or 
 in line what the slot has
 
 V3 EntryMisfit
-It refuses: the entry row does not imply the row of the first pc; or the routine is public
-and its entry or exit row breaks the rules.
+It refuses: the entry row does not imply the row of the first pc; or the routine is public,
+and its entry or exit row breaks a condition for public routines.
 Example: a public routine begins and ends with empty or borrowed slots and stale pointers;
 s0=mem in the in line is not borrowed: lock the block in this routine, or omit public
 Cure: in a public routine `in` and `out` have no pointers, and only borrowed slots: `vm@` in
@@ -471,7 +475,8 @@ Cure: AND also bounds an index.
 
 V6 ChangesUnmarked
 It refuses: a write through a pointer, or an instruction that moves the chunks of the block,
-changes a VM block or DB group in a slot, and it is not known that this block is marked.
+changes a VM block or DB group in a slot, and the row does not say that this block is
+marked.
 Example: s0=vm is changed here, and may not be marked: VDIRTY s0 before this marks it
 
 V7 LocksIntoHeld
@@ -481,7 +486,8 @@ s0 first
 
 V8 WrongSlot
 It refuses: an instruction other than a lock uses a slot that is empty or has a block of the
-wrong kind; or a borrowed slot is unlocked. SNE requires two blocks of one kind.
+wrong kind; or an instruction unlocks a borrowed slot. SNE requires two blocks of the same
+kind.
 Example: s0 is empty here, and a locked block is required: lock one into s0 first, or say s0
 in the in line
 Cure: lock a block into the slot on each path; leave borrowed blocks to the caller.
@@ -493,14 +499,14 @@ Example: s0=vm is locked where the file is written: unlock it before; s0 is lock
 in line: unlock it in the caller
 
 V10 CallMisfit
-It refuses: the callee of a CALL does not come before the calling routine, or the row does
-not imply the callee's entry row.
+It refuses: the callee of a CALL does not come before the calling routine, or the row at the
+CALL does not imply the callee's entry row.
 Example: s0=vm is required by v9, and not known here; first lock a block into s0
 Cure: before the CALL, lock, fetch, bound or compare what the callee's `in` names. Empty the
 slots that the callee locks itself.
 
 V11 ExitMisfit
-It refuses: the row at a RET does not imply the exit row.
+It refuses: the row at a RET does not imply the routine's exit row.
 Example: s0=mem is still locked at the return; s0 is locked since line 45: say it in the out
 line, or MUNLOCK s0 before the return
 
@@ -533,7 +539,7 @@ refused 4 NoRoom
 no room in the region.
 
 refused 5 NoHandle
-no handle is free.
+all 1,024 handles are in use, or for MNEW all up to the host's limit.
 
 refused 6 TooBig
 the block would need more than 65,520 bytes, or the commit more than an area of the file.
@@ -554,8 +560,8 @@ refused 11 Disk
 the device failed.
 
 refused 12 Unsure
-an earlier commit failed at or after its write of the selector, so it is unknown what the
-device has; nothing more is written to it.
+an earlier commit failed at or after its write of the selector, so it is unknown which state
+the device has; nothing more is written to the device.
 
 refused 13 Memory
 memory for writing the file was refused.
@@ -571,8 +577,8 @@ why 1 UnknownWord
 the first word after the labels is no instruction, and none of `routine`, `in`, `out`.
 
 why 2 WrongOperands
-operands are too few or too many (then none is read), or one has another form, as `9x`,
-`-1`, `0x1`, `w8`, `w01` or `s1#s1`.
+the number of operands is wrong, or an operand has a wrong form, as `9x`, `-1`, `0x1`, `w8`,
+`w01` or `s1#s1`.
 
 why 3 OutOfRange
 a number exceeds its range: 15 for SHR, 4,294,967,295 for a budget, 65,535 for others.

@@ -13,7 +13,7 @@ told-exactly (Some lowest) rule = by_rule (is_of_budget lowest) refl
     by_rule true is = ((λ none. absurd cc), (λ both. (let same : Some lowest ≡ Some rule = both.0 in let not_so = both.1 in absurd cc)))
     by_rule false is = ((λ same. (same, cc)), (λ both. both.0))
 
--- the same of what is told, where something that is repeated is not
+-- the same for the reported rule, which omits repeated refusals
 once-exactly : {Repeated : Type 0} (told found lowest : Option Rule) (rule : Rule) → found ≡ lowest
     → (Repeated × (told ≡ None)) ⊎ ((Repeated → ⊥) × (told ≡ found))
     → (told_rule told ≡ Some rule) ↔ ((lowest ≡ Some rule) × (is_of_budget rule ≡ false) × (Repeated → ⊥))
