@@ -52,9 +52,16 @@ COMMANDS = [
     (["trace", "keep.asm", "put", "7"], None, None),
     (["trace", "-", "put", "7", "--count"], "keep.asm", None),
     (["budget", "text.asm", "-"], None, None),
+    (["trace", "image", "get", "--file", "file.vm"], None, None),
+    (["test", "image", "test.script", "--file", "file.vm"], None, None),
+    (["test", "image", "test.script", "--junit", "new.xml"], None, "new.xml"),
+    (["check", "file.vm"], None, None),
     (["put", "file.vm", "1", "16"], "script", None),
+    (["put", "file.vm", "--new-block", "7"], "script", "file.vm"),
+    (["put", "file.vm", "--new-chunk", "1"], "script", None),
     (["get", "file.vm", "1", "16"], None, None),
     (["dump", "file.vm", "--chunks"], None, None),
+    (["dump", "file.vm", "1", "--arrays"], None, None),
     (["dump", "text.asm"], None, None),
     (["diff", "file.vm", "file.vm"], None, None),
     (["map", "file.vm"], None, None),
@@ -76,6 +83,8 @@ def make_files(folder):
         shutil.copyfile(f"{TOP}/{source}", f"{folder}/{name}")
     with open(f"{folder}/script", "w", encoding="ascii") as script:
         script.write("call put 7\nsave\ncall get\n")
+    with open(f"{folder}/test.script", "w", encoding="ascii") as script:
+        script.write("call put 7 =>\ncall get => 7\n")
     for words in (["asm", "keep.asm", "image"], ["new", "file.vm", "--area", "512"]):
         subprocess.run([PROGRAM, *words], cwd=folder, check=True)
 
@@ -248,6 +257,9 @@ def try_files(folder, kept):
     for path in there + missing:
         tries = [(["dump", path], "read"), (["map", path], "read"), (["run", "image", path, "script"], "read")]
         tries += [(["copy", path, "new.vm"], "read"), (["diff", path, "file.vm"], "read"), (["diff", "file.vm", path], "read")]
+        tries += [(["dump", path, "1", "16"], "read"), (["get", path, "1", "16"], "read"), (["put", path, "1", "16"], "read")]
+        tries += [(["put", path, "--new-group"], "read"), (["test", "image", "test.script", "--file", path], "read")]
+        tries += [([command, "image", "get", "--file", path], "read") for command in ("call", "trace")]
         if path in there:
             tries += [(["new", path], "write"), (["copy", "file.vm", path], "write")]
         if path in ("a folder", "a folder/", "ring", "socket", "/dev/full", ".", "missing/file", "text.asm/file", "", "x" * 300):

@@ -1,15 +1,17 @@
-"""Runs the fenced blocks of Markdown pages, and reports where a command prints something other than the page says.
+"""Runs the fenced blocks of Markdown pages, and reports where a command prints something other than the page says, or a file has no such lines.
 
     python3 fences.py PROGRAM TOP PAGE.. [--write]
 
 The blocks of a page are taken in order, in a new folder that has only links to the program, as `geos`, and to the repository's `examples` and `library`:
 
-- a block whose first line is ```asm add.asm, or another language and a file's name, is written to this file;
+- a block whose first line is ```asm add.asm, or another language and a file's name, is written to this file. But if a file of the
+  repository has this name, as in ```antt crates/one/specs/Rules.antt, the block quotes it: this file has the block's words, with `..` for any;
 - in a block of the language console, a line after `$ ` is a command of the shell, and goes on in lines after `> `. The other lines are what
   it prints on both streams. A line `..` stands for any lines;
 - any other block is not run.
 
-Prints a difference for each command that prints something else. With --write the pages get what is printed now.
+Prints a difference for each command that prints something else, and a line for each quote that is none. With --write the pages get what is
+printed now.
 """
 
 import difflib
@@ -80,6 +82,12 @@ def commands_of(block: Block) -> list[Command]:
     return commands
 
 
+def is_quoted(block: Block, top: Path) -> bool:
+    """Whether a file of the repository has the words of a block, with `..` for any."""
+    parts = [re.escape(" ".join(part.split())) for part in "\n".join(block.lines).split("..")]
+    return re.search(".*".join(parts), " ".join((top / block.file).read_text().split())) is not None
+
+
 def script_of(blocks: list[Block], files: Path) -> str:
     """What the shell runs for a page: the commands, and before them the copies of files as they come."""
     parts = ["exec </dev/null 2>&1", "marked() { last=$?; printf '\\0'; return $last; }"]
@@ -120,6 +128,11 @@ def agrees(wanted: list[str], lines: list[str]) -> bool:
 def check_page(program: Path, top: Path, page: Path, write: bool) -> None:
     lines = page.read_text().split("\n")
     blocks = blocks_of(lines)
+    quotes = [block for block in blocks if block.file and (top / block.file).is_file()]
+    for block in quotes:
+        if not is_quoted(block, top):
+            print(f"{page.relative_to(top)}:{block.number}: {block.file} has no such lines")
+    blocks = [block for block in blocks if block not in quotes]
     commands = [command for block in blocks if block.runs for command in commands_of(block)]
     runs = printed(program, top, blocks)
     if len(runs) < len(commands):

@@ -1,5 +1,5 @@
 /* Loads routines of strangers, which the verifier accepts: each is refused if what it does is not granted, and told with the effect and the
- * instruction that has it; and it is accepted if all that it does is granted. takhvoi_effects tells just that. */
+ * instruction that has it; and it is accepted if all that it does is granted. takhvoi_effects tells just that, and takhvoi_budget its budget. */
 #include "takhvoi.h"
 #include <stdio.h>
 #include <string.h>
@@ -52,6 +52,8 @@ static void judge(takhvoi_kernel *k, const plugin *p) {
     /* Its public routine is the last one. */
     while (takhvoi_effects(k, image, (uint16_t)(routine + 1), &told) == TAKHVOI_DONE) routine++;
     if (takhvoi_effects(k, image, routine, &told) != TAKHVOI_DONE || told != p->effects) printf(" (told %u)", (unsigned)told);
+    if (takhvoi_budget(k, image, routine, &told) != TAKHVOI_DONE || told != 20) printf(" (budget %u)", (unsigned)told);
+    if (takhvoi_budget(k, image, (uint16_t)(routine + 1), &told) != TAKHVOI_NOT_ADMITTED) printf(" (budget of no routine)");
     puts("");
 }
 
@@ -60,6 +62,7 @@ int main(void) {
     uint32_t effects;
     if (takhvoi_new(&k, 1 << 12, 1 << 16) != TAKHVOI_DONE) return 1;
     if (takhvoi_effects(&k, 0, 0, &effects) != TAKHVOI_NOT_ADMITTED) puts("effects of no image");
+    if (takhvoi_budget(&k, 0, 0, &effects) != TAKHVOI_NOT_ADMITTED) puts("budget of no image");
     for (int i = 0; i < PLUGINS; i++) judge(&k, &plugins[i]);
     return takhvoi_close(&k) != TAKHVOI_DONE;
 }

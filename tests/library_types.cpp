@@ -44,6 +44,7 @@ void locks(Kernel &kernel) {
     { const LockedBlock last = std::move(block); }
     check(kernel.free(name).has_value(), "a block is freed");
     check(kernel.limit(0) && kernel.make_block().status() == TAKHVOI_NO_ROOM && kernel.limit(UINT32_MAX), "a limit on memory");
+    check(kernel.limit_blocks(0) && kernel.make_block().status() == TAKHVOI_NO_HANDLE && kernel.limit_blocks(1024), "a limit on blocks");
 }
 
 void bytes(Kernel &kernel) {
@@ -90,6 +91,7 @@ void routines(Kernel &kernel) {
     check(add.run({1, 2}, {}, nullptr, 0).value().count == 1 && add.output_of({1, 2}).value().size() == 1, "a run without room");
     const LockedBlock memory = kernel.make_block().value();
     check(add.run({}, {&memory}, put, 1).status() == TAKHVOI_NOT_ADMITTED, "no block of memory is lent");
+    check(add.budget().value() == 4 && loaded.routine_at(1).budget().status() == TAKHVOI_NOT_ADMITTED, "budgets");
     check(loaded.routine("sub").status() == TAKHVOI_NOT_ADMITTED, "no such routine");
     check(list(image).value().find("routine add") != std::string::npos && explain(image).value().find("ADD") != std::string::npos, "texts");
     auto said = explain_text("routine f public budget 1\n ldi w0 5\n");

@@ -1,4 +1,5 @@
-/* A host lets a routine of a stranger have 2,500 bytes beside its own block. The third block of 1,008 bytes is refused 4, and the run goes on. */
+/* A host lets a routine of a stranger have 2,500 bytes beside its own block. The third block of 1,008 bytes is refused 4, and the run goes on.
+ * Then the host lets it have blocks only under handles up to 5: the next one is refused 5. */
 #include "takhvoi.h"
 #include <stdio.h>
 #include <stdlib.h>
@@ -48,7 +49,17 @@ int main(void) {
     printf("no byte more: %u\n", make(&k, image));
     DONE(takhvoi_limit(&k, UINT32_MAX));
     printf("no limit: %u\n", make(&k, image));
+    /* The blocks have the handles 1 to 5, of which the routine has made 2, 3 and 5. */
+    DONE(takhvoi_limit_blocks(&k, 5));
+    want(takhvoi_mnew(&k, &second), TAKHVOI_NO_HANDLE, "a block above the limit");
+    printf("no block more: %u\n", make(&k, image));
+    DONE(takhvoi_limit_blocks(&k, 6));
+    n = make(&k, image);
+    printf("one block more: %u %u\n", n, make(&k, image));
+    DONE(takhvoi_limit_blocks(&k, 1024));
+    printf("no limit: %u\n", make(&k, image));
     DONE(takhvoi_close(&k));
     want(takhvoi_limit(&k, 0), TAKHVOI_NO_KERNEL, "a closed kernel");
+    want(takhvoi_limit_blocks(&k, 0), TAKHVOI_NO_KERNEL, "a closed kernel");
     return 0;
 }

@@ -32,8 +32,8 @@ WORD = re.compile(r"[A-Za-z]\w+")
 # What looks like an item on a page that is no crate's.
 LIKE_AN_ITEM = re.compile(r"[A-Za-z]+_\w+|[A-Z][a-z0-9]+[A-Z]\w*")
 OF_CRATES = ("src", "specs", "proofs", "must-fail")
-# Folders with items that no crate has: the library for C and other languages, and the second readings.
-OTHERS = ("library", "bindings", "tests")
+# Folders with items that no crate has: the library for C and other languages, the second readings, and the scripts.
+OTHERS = ("library", "bindings", "tests", "tools")
 SUFFIXES = ("", ".antt", ".rt", ".edit")
 
 

@@ -1,8 +1,9 @@
 """Makes random texts with a routine of their own and a public one, and calls the public one under random grants, on a VM file with blocks,
 groups, items and a map. A second reading of effects, a table of which instruction does what, says which grants are enough. A call that is
-accepted changes only what was granted: the file before and after it, each chunk of both directories, the map, and what is printed. A call
-that is refused names a public routine, an effect that it has and that is not granted, and the line of an instruction that has this effect.
-Blocks of memory do not last longer than a call, so nothing is compared of them.
+accepted changes only what was granted: a second reading of VM files compares the file before and after it, all bytes of the blocks of both
+directories, and the map; and nothing is printed. A call that is refused names a public routine, an effect that it has and that is not granted,
+and the line of an instruction that has this effect. Blocks of memory do not last longer than a call, so nothing is compared of them here:
+random_loads.py does this, with the same texts.
 
     python3 random_grants.py GEOS [COUNT [SEED]]
 """
@@ -14,6 +15,8 @@ import sys
 import tempfile
 from pathlib import Path
 from typing import NamedTuple
+
+import file_reading
 
 SLOTS = range(4)
 PLAIN = ("output", "memory", "locks-by-handle", "reads-file", "changes-file", "map", "commits")
@@ -57,8 +60,8 @@ EFFECTS = {
     "VSAVE": "commits",
 }
 # What is done to the block of a slot, or through a pointer into it.
-READS = ("LSIZE", "DEREF", "CACOUNT", "CAELT", "LDB", "LDW", "LDCB", "LDCW")
-CHANGES = ("VDIRTY", "IDIRTY", "STB", "STW", "STCB", "STCW", "LALLOC", "LFREE", "LREALLOC", "LINS", "LDEL", "LCONTRACT", "CANEW", "CAADD", "CADEL", "CAZERO")
+READS = "LSIZE DEREF CACOUNT CAELT LDB LDW LDXB LDXW LDCB LDCW".split()
+CHANGES = "VDIRTY IDIRTY STB STW STXB STXW STCB STCW LALLOC LFREE LREALLOC LINS LDEL LCONTRACT CANEW CAADD CAINS CADEL CARESIZE CAZERO".split()
 OWNERS = {"memory": "memory memory", "file": "reads-file changes-file", "lent": "reads-s{0} changes-s{0}"}
 
 # The file has the blocks 1, 2, 3 and 5, each with a chunk 16 of eight bytes and an array 18, and the group 4 with two items. Block 1 and
@@ -92,7 +95,16 @@ group_end:
 SCRIPT = "call block 11\ncall block 12\ncall block 13\ncall group\nsave\ncall block 14\nupdate\n"
 # More to be put into the chunks and the slots: what a fragment may do to a block that a slot has, where w1 to w3 have small numbers.
 ON_BLOCK = {
-    "reads": ("LSIZE s w4 w2 L", "DEREF s p w2 2 L\nLDB w4 p 1", "DEREF s p w2 4 L\nLDCW w4 p w1 L", "CACOUNT s w4 w3 L", "CAELT s p w3 w1 2 L\nLDW w4 p 0"),
+    "reads": (
+        "LSIZE s w4 w2 L",
+        "DEREF s p w2 2 L\nLDB w4 p 1",
+        "DEREF s p w2 4 L\nLDCW w4 p w1 L",
+        "CHK w1 6 L\nDEREF s p w2 8 L\nLDXW w4 p w1",
+        "CHK w1 0 L\nDEREF s p w2 1 L\nLDXB w4 p w1",
+        "DEREF s p w2 1 L\nPLEN w4 p",
+        "CACOUNT s w4 w3 L",
+        "CAELT s p w3 w1 2 L\nLDW w4 p 0",
+    ),
     "changes": (
         "LALLOC s w4 w1 L",
         "LFREE s w2 L",
@@ -102,9 +114,14 @@ ON_BLOCK = {
         "LCONTRACT s",
         "CANEW s w4 2 L",
         "CAADD s w3 w1 L",
+        "CAINS s w3 w1 w1 L",
         "CADEL s w3 w1 L",
+        "CARESIZE s w3 w1 w2 L",
         "CAZERO s w3 L",
         "DEREF s p w2 4 L\nSTW w5 p 2",
+        "DEREF s p w2 4 L\nMOVP p p\nSTB w5 p 3",
+        "CHK w1 6 L\nDEREF s p w2 8 L\nSTXW w5 p w1",
+        "CHK w1 5 L\nDEREF s p w2 6 L\nSTXB w5 p w1",
         "DEREF s p w2 1 L\nSTCB w5 p w1 L",
     ),
 }
@@ -210,6 +227,15 @@ class Routine:
                 self.lines.append(line_of(spelled(text, {"s": f"s{slot}", "p": f"p{slot}", "L": end}), slot, "lent"))
         self.here(end)
 
+    def copy(self):
+        """What one lent block has is copied to another."""
+        into, out_of, end = *self.choices.sample(self.lent, 2), self.label()
+        self.lines.append(line_of(f"VDIRTY s{into}", into, "lent"))
+        for slot in (into, out_of):
+            self.lines.append(line_of(f"DEREF s{slot} p{slot} w2 4 {end}", slot, "lent"))
+        self.lines.append(Line(f"        COPY p{into} p{out_of} 4", frozenset((f"changes-s{into}", f"reads-s{out_of}"))))
+        self.here(end)
+
     def on_own(self):
         free = [slot for slot in SLOTS if slot not in self.lent]
         owner, take, mark, give = self.choices.choice(OWN)
@@ -231,6 +257,8 @@ class Routine:
             self.on_own()
         elif kind == 5 and not self.lent:
             self.simple(self.choices.choice(COMMITS))
+        elif kind == 5 and len(self.lent) > 1:
+            self.copy()
         else:
             self.simple(self.choices.choice(WITHOUT_SLOT))
 
@@ -274,25 +302,16 @@ def random_grants(choices, effects):
 
 
 class Directory(NamedTuple):
-    """The map block, the map item, and by handle each block: its line and the bytes of its chunks."""
+    """The map block and the map item, and by handle the user ID and the bytes of each block."""
 
-    mapped: str
+    mapped: tuple
     blocks: dict
 
 
-def dumped(geos, file):
-    """The current directory and the saved one."""
-    shown = subprocess.run([geos, "dump", file, "--chunks"], capture_output=True, text=True, check=True).stdout
-    directories, block = [], None
-    for line in shown.splitlines():
-        if line.startswith(("current ", "saved ")):
-            directories.append(Directory(line.split(" ", 1)[1], {}))
-        elif re.match(r"\d+ uid ", line):
-            block = int(line.split()[0])
-            directories[-1].blocks[block] = line
-        else:
-            directories[-1].blocks[block] += "\n" + line
-    return directories
+def directories(file):
+    """The current directory of a file and the saved one."""
+    read = file_reading.read(Path(file).read_bytes())
+    return [Directory((it.map_block, it.group, it.item), {handle: (user, block) for handle, user, block in it.entries}) for it in read]
 
 
 def kept_wrong(text, granted, before, after, printed):
@@ -337,7 +356,7 @@ def try_text(geos, folder, choices, counts):
     file, source = folder / "file.vm", folder / "text.asm"
     file.write_bytes((folder / "first.vm").read_bytes())
     source.write_text(text.spelled())
-    before = dumped(geos, file)
+    before = directories(file)
     words = [geos, "call", source, "public_one", *(f"@{handle}" for handle in text.handles), "--file", file, "--grant", ",".join(sorted(granted)) or "none"]
     # The file is as before without `commits`; what is in memory at the end is seen where the call commits it.
     commits = choices.choice(([], ["--update"])) if "commits" in granted else ["--update"]
@@ -361,7 +380,7 @@ def try_text(geos, folder, choices, counts):
     done = subprocess.run([*words, *commits], capture_output=True, text=True)
     if done.returncode and not done.stderr.startswith("refused "):
         yield f"status {done.returncode}: {done.stderr}"
-    yield from kept_wrong(text, granted, before, dumped(geos, file), done.stdout)
+    yield from kept_wrong(text, granted, before, directories(file), done.stdout)
 
 
 def main():

@@ -423,7 +423,7 @@ def too_long_a_revert(folder):
 def in_table():
     """The refusals of the table of instructions."""
     for line in Path(INSTRUCTIONS).read_text().splitlines():
-        row = re.fullmatch(r"\| [0-9a-f]{2} \| ([A-Z]+)[^|]*\|.*\| ([0-9, ]*) \|", line)
+        row = re.fullmatch(r"\| \[[0-9a-f]{2}\]\S* \| \[([A-Z]+)\][^|]*\|.*\| ([0-9, ]*) \|", line)
         if row:
             yield from ((row[1], int(number)) for number in row[2].split(", ") if number)
 

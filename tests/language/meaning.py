@@ -47,11 +47,13 @@ class Pointer:
     chunk: int
     start: int
     size: int
-    fields: dict[str, tuple[int, int]]
+    fields: "Fields"
     moves: int
 
 
 Scope = dict[str, Any]
+# The fields of a structure: the offset, the bytes of an element, and the fields of a structure in it.
+Fields = dict[str, tuple[int, int, Any]]
 OPERATORS = {
     "+": lambda a, b: a + b,
     "-": lambda a, b: a - b,
@@ -79,7 +81,7 @@ class Program:
         self.memory = Memory()
         self.constants: dict[str, int] = {}
         self.sizes: dict[str, int] = {}
-        self.fields: dict[str, dict[str, tuple[int, int]]] = {}
+        self.fields: dict[str, Fields] = {}
         self.routines: dict[str, Tree] = {}
         self.output: list[int] = []
         self.why: int | None = None
@@ -95,8 +97,8 @@ class Program:
     def declare(self, item: Tree) -> None:
         at, fields = 0, {}
         for name, kind, count in item.fields:
-            width = 2 if kind == "word" else 1
-            fields[name] = (at, width)
+            width = self.sizes[kind] if kind in self.sizes else 2 if kind == "word" else 1
+            fields[name] = (at, width, self.fields.get(kind))
             at += width * (1 if count is None else self.word(count, []))
         self.sizes[item.name], self.fields[item.name] = at, fields
 
@@ -169,7 +171,7 @@ class Program:
         finally:
             self.tests = tests
 
-    do_let = do_set = do_do = do_out = ended
+    do_let = do_set = do_write = do_do = do_out = ended
 
     def end_let(self, statement: Tree, scopes: list[Scope]) -> None:
         scopes[-1].update(dict.fromkeys(statement.names))
@@ -184,6 +186,11 @@ class Program:
             next(s for s in reversed(scopes) if place.name in s)[place.name] = value
         else:
             self.reach(place, scopes, self.word(statement.value, scopes))
+
+    def end_write(self, statement: Tree, scopes: list[Scope]) -> None:
+        """Writes a string: each byte is within what the pointer has, or none is written."""
+        pointer, at, width, _ = self.place(statement.place, scopes)
+        self.reached(statement.place, pointer, at, width * len(statement.text), statement.text)
 
     def end_do(self, statement: Tree, scopes: list[Scope]) -> None:
         self.values(statement.call, scopes)
@@ -302,7 +309,7 @@ class Program:
                 return scope[tree.name]
         return self.constants[tree.name]
 
-    def size(self, tree: Tree) -> tuple[int, dict[str, tuple[int, int]]]:
+    def size(self, tree: Tree) -> tuple[int, Fields]:
         """The bytes of a structure or a number, and the fields."""
         if tree.kind == "name" and tree.name in self.sizes:
             return self.sizes[tree.name], self.fields[tree.name]
@@ -330,24 +337,34 @@ class Program:
             self.refuse(refused, call.asks)
         return Pointer(block, words[0], start, size, fields, block.moves)
 
+    def place(self, tree: Tree, scopes: list[Scope]) -> tuple[Pointer, int, int, Fields]:
+        """The pointer of an access, the offset and the bytes of what it reaches, and the fields of that."""
+        if tree.base.kind == "field":
+            pointer, start, _, fields = self.place(tree.base, scopes)
+        else:
+            pointer = self.pointer(tree.base, scopes)
+            start, fields = 0, pointer.fields
+        index = 0 if tree.index is None else self.word(tree.index, scopes)
+        at, width, inner = fields[tree.name] if tree.name in fields else (0, 2 if tree.name == "w" else 1, None)
+        counted = index * (width if tree.name in fields else 1)
+        return pointer, (start + at + counted) % 65_536, width, inner or {}
+
     def reach(self, tree: Tree, scopes: list[Scope], value: int | None) -> int:
         """Reads an access, or writes a value into it."""
-        pointer = self.pointer(tree.base, scopes)
-        index = 0 if tree.index is None else self.word(tree.index, scopes)
-        if tree.name in pointer.fields:
-            at, width = pointer.fields[tree.name]
-            at = (at + index * width) % 65_536
-        else:
-            at, width = index, 2 if tree.name == "w" else 1
+        pointer, at, width, _ = self.place(tree, scopes)
+        spelled = None if value is None else (value % 256**width).to_bytes(width, "little")
+        return int.from_bytes(self.reached(tree, pointer, at, width, spelled), "little")
+
+    def reached(self, tree: Tree, pointer: Pointer, at: int, width: int, written: bytes | None) -> bytes:
+        """The bytes at an offset, which are then the ones that are written."""
         if at + width > pointer.size:
             if not (tree.asks or self.tests):
                 raise Wrong("an access past the bytes of its pointer")
             self.refuse(Refused(14), tree.asks)
         data, at = pointer.block.chunks[pointer.chunk], pointer.start + at
-        if value is not None:
-            spelled = (value % 256**width).to_bytes(width, "little")
-            pointer.block.chunks[pointer.chunk] = data[:at] + spelled + data[at + width :]
-        return int.from_bytes(data[at : at + width], "little")
+        if written is not None:
+            pointer.block.chunks[pointer.chunk] = data[:at] + written + data[at + width :]
+        return data[at : at + width]
 
     def values(self, tree: Tree, scopes: list[Scope]) -> list[Any]:
         """The values of what a `let` names or a statement calls: a pointer, or words."""

@@ -5,20 +5,23 @@ from dataclasses import dataclass, field, replace
 
 KINDS = {"mlock": "mem", "mnew": "mem", "vlock": "vm", "vnew": "vm", "ilock": "group"}
 FRAME = """struct Pair { left: word, right: word, tag: byte, more: byte[3] }
+struct Both { head: byte, pairs: Pair[2], name: byte[3] }
 const K = {};
 """
+# The bytes of each structure.
+SIZES = {"": 0, "Pair": 8, "Both": 20}
 
 
 @dataclass(frozen=True)
 class Known:
     """What statements may use at a place: words, those of them that can't be set, blocks with their kinds, pointers with their block, their
-    bytes and whether they lead to a `Pair`; whether a loop, and a path of refusals, is around; whether `why` is known; and what the names that
+    bytes and the structure that they lead to; whether a loop, and a path of refusals, is around; whether `why` is known; and what the names that
     a `for` between constants counts are below."""
 
     words: tuple[str, ...] = ()
     fixed: tuple[str, ...] = ()
     blocks: dict[str, str] = field(default_factory=dict)
-    pointers: dict[str, tuple[str, int, bool]] = field(default_factory=dict)
+    pointers: dict[str, tuple[str, int, str]] = field(default_factory=dict)
     loops: int = 0
     result: bool = False
     fails: bool = True
@@ -86,7 +89,7 @@ class Writer:
             kinds.append(kind)
             if self.chance(0.4):
                 pointer = self.fresh("p")
-                known = replace(known, pointers={pointer: (block, 8, True)})
+                known = replace(known, pointers={pointer: (block, 8, "Pair")})
                 written.append(f"{pointer}: Pair in {block}")
                 kinds.append("pointer")
         result = self.chance(0.5)
@@ -123,7 +126,7 @@ class Writer:
             forms += ["ask"] if known.blocks else []
         form = self.pick(forms)
         if form == "number":
-            return self.pick(["0", "1", "2", "3", "8", "16", "18", "100", "65535", "0x1f", "0b11", "'a'", "K"])
+            return self.pick(["0", "1", "2", "3", "8", "16", "18", "100", "65_535", "0x1f", "0b11", "'a'", "'\\n'", "'\\''", "K"])
         if form in ("+", "-"):
             sides = [self.changing(known, depth - 1), self.value(known, depth - 1)]
             self.random.shuffle(sides)
@@ -147,16 +150,31 @@ class Writer:
 
     def access(self, known: Known) -> str:
         name = self.pick(known.pointers)
-        least, pair = known.pointers[name][1:]
+        least, led = known.pointers[name][1:]
         counted = [i for i in known.below if i in known.words and known.below[i] < least]
+        if led == "Both" and self.chance(0.8):
+            return self.nested(name, known)
         if counted and self.chance(0.7):
             return f"{name}.{self.pick('wb')}[{self.pick(counted)}]"
-        if pair and self.chance(0.7):
+        if led == "Pair" and self.chance(0.7):
             return name + self.pick([".left", ".right", ".tag", ".more[1]", f".more[{self.index(known)}]?"])
         letter = self.pick("wb")
         if least >= 2 and self.chance(0.4):
             return f"{name}.{letter}[{self.number(0, least - 2)}]"
         return f"{name}.{letter}[{self.pick(['0', '3', '6', f'({self.word(known)} & 7)', self.word(known)])}]?"
+
+    def nested(self, name: str, known: Known) -> str:
+        """An access through a pointer to a structure that has structures in it."""
+        counted = [i for i in known.below if i in known.words and known.below[i] <= 2]
+        within = [".left", ".right", ".tag", ".more[1]", ".w[2]"]
+        if counted and self.chance(0.5):
+            return f"{name}.pairs[{self.pick(counted)}]{self.pick([*within, f'.more[{self.pick(counted)}]'])}"
+        if self.chance(0.3):
+            return name + self.pick([".head", ".name[2]", f".name[{self.index(known)}]?"])
+        if self.chance(0.5):
+            return f"{name}.pairs[{self.number(0, 1)}]{self.pick([*within, f'.more[{self.index(known)}]?'])}"
+        index = self.pick([self.index(known), f"({self.word(known)} & 1)", self.word(known)])
+        return f"{name}.pairs[{index}]{self.pick([*within, f'.more[{self.index(known)}]', f'.b[{self.word(known)}]'])}?"
 
     def call(self, known: Known, result: bool) -> str | None:
         fitting = [r for r in self.routines if r.result == result]
@@ -174,7 +192,7 @@ class Writer:
             if kind == "word":
                 arguments.append(self.value(known, 1))
             elif kind == "pointer":
-                fitting = [p for p, at in known.pointers.items() if at[0] == block and at[2]]
+                fitting = [p for p, at in known.pointers.items() if at[0] == block and at[2] == "Pair"]
                 if not fitting:
                     return None
                 arguments.append(self.pick(fitting))
@@ -217,6 +235,8 @@ class Writer:
             forms += ["chunk", "chunk", "array", "fetch", "fetch", "fetch"]
         if known.pointers:
             forms += ["store"] * 4 + ["copy"]
+        if known.fails:
+            forms += ["assertion"]
         return getattr(self, self.pick(forms))(known, depth)
 
     def ended(self, call: str, known: Known, depth: int) -> str:
@@ -246,6 +266,9 @@ class Writer:
             body += "\n" + self.leave(known)
         other = f" else {{\n{self.statements(known, 1, depth + 1)[0]}\n}}" if self.chance(0.4) else ""
         return f"if {self.condition(known)} {{\n{body}\n}}{other}", self.after(known)
+
+    def assertion(self, known: Known, depth: int) -> tuple[str, Known]:
+        return f"assert {self.condition(known)};", known
 
     def after(self, known: Known) -> Known:
         """What is known after statements that may have moved chunks."""
@@ -297,7 +320,7 @@ class Writer:
             call = f"{form}({name}{', ' + self.pick(['5', '6', '65280']) if form == 'vnew' else ''})"
         elif form == "ilock":
             pointer, least = self.fresh("p"), self.pick([0, 2, 8])
-            inner = replace(inner, pointers=inner.pointers | {pointer: (block, least, False)})
+            inner = replace(inner, pointers=inner.pointers | {pointer: (block, least, "")})
             names += f", {pointer}"
             call = f"ilock({handle}, {self.pick(['16', '16', '18', handle])}, {least})"
         else:
@@ -306,7 +329,7 @@ class Writer:
         first = ""
         if form in ("mnew", "vnew") and self.chance(0.7):
             chunk = self.fresh("c")
-            first = f"let {chunk} = lalloc({block}, {self.pick([8, 8, 9, 20])})?;\n"
+            first = f"let {chunk} = lalloc({block}, {self.pick([8, 9, 20, 20])})?;\n"
             inner = inner.with_word(chunk)
         body = first + self.statements(inner, self.number(2, 5), depth + 1)[0]
         if self.chance(0.7):
@@ -324,13 +347,13 @@ class Writer:
     def fetch(self, known: Known, depth: int) -> tuple[str, Known]:
         if len(known.pointers) > 2:
             return self.out(known, depth)
-        block, name, pair = self.pick(known.blocks), self.fresh("p"), self.chance(0.5)
-        least = 8 if pair else self.pick([0, 1, 2, 8])
-        size = "Pair" if pair else str(least)
+        block, name, led = self.pick(known.blocks), self.fresh("p"), self.pick(["", "Pair", "Both", "Both"])
+        least = SIZES[led] or self.pick([0, 1, 2, 8])
+        size = led or str(least)
         call = f"deref({block}, {self.chunk_of(known)}, {size})"
         if self.chance(0.25):
             call = f"caelt({block}, {self.chunk_of(known)}, {self.pick(['0', '1', self.word(known)])}, {size})"
-        return f"let {name} = {call}?;", replace(known, pointers=known.pointers | {name: (block, least, pair)})
+        return f"let {name} = {call}?;", replace(known, pointers=known.pointers | {name: (block, least, led)})
 
     def chunk(self, known: Known, depth: int) -> tuple[str, Known]:
         block = self.pick(known.blocks)
@@ -355,7 +378,17 @@ class Writer:
         return self.ended(self.pick(calls), moved, depth), moved
 
     def store(self, known: Known, depth: int) -> tuple[str, Known]:
+        named = [p for p, at in known.pointers.items() if at[2] in ("Pair", "Both")]
+        if named and self.chance(0.3):
+            return self.written(self.pick(named), known), known
         return f"{self.access(known)} = {self.value(known, 2)};", known
+
+    def written(self, name: str, known: Known) -> str:
+        """A string that is written."""
+        field, counted = ".more", [i for i in known.below if i in known.words and known.below[i] <= 2]
+        if known.pointers[name][2] == "Both":
+            field = self.pick([".name", ".pairs[1].more", f".pairs[{self.pick(counted or '01')}].more"])
+        return name + field + " = " + self.pick(['"a"', '"no"', '"yes"', r'"\"\n"', r'"\\it"', '"\'//"']) + ";"
 
     def copy(self, known: Known, depth: int) -> tuple[str, Known]:
         to, source = self.pick(known.pointers), self.pick(known.pointers)

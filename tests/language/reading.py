@@ -5,12 +5,17 @@ from dataclasses import dataclass, field
 from typing import Any
 
 TOKEN = re.compile(
-    r"(?P<blank>\s+|//[^\n]*)|(?P<number>0x[0-9a-fA-F]+|0b[01]+|[0-9]+)|(?P<letter>'[^'\n]')"
+    r"(?P<blank>\s+|//[^\n]*)|(?P<number>0x[0-9a-fA-F_]+|0b[01_]+|[0-9][0-9_]*)|(?P<letter>'(?:\\[nt\\'\"]|[^'\n])')"
+    r"|(?P<text>\"(?:\\[nt\\'\"]|[^\\\"\n])+\")"
     r"|(?P<word>[A-Za-z_][A-Za-z0-9_]*)|(?P<sign>\.\.|->|<=|>=|==|!=|&&|\|\||<<|>>|[-+*/%&<>=!?.,;:(){}\[\]])"
 )
 # The operators by how strongly they bind, the weakest first.
 LEVELS = (("||",), ("&&",), ("==", "!=", "<", ">", "<=", ">="), ("&",), ("<<", ">>"), ("+", "-"), ("*", "/", "%"))
 LEAVES = ("break", "continue", "fail", "return")
+# What a letter after a backslash stands for.
+ESCAPES = {"n": 10, "t": 9, "\\": 92, "'": 39, '"': 34}
+# What `why` is after a false assertion.
+ASSERTED = 16
 
 
 @dataclass
@@ -28,7 +33,7 @@ class Tree:
 
 
 def tokens_of(text: str) -> list[tuple[str, Any]]:
-    """The tokens: a kind, and a number or what is written."""
+    """The tokens: a kind, and a number, the bytes of a string or what is written."""
     found: list[tuple[str, Any]] = []
     at = 0
     while at < len(text):
@@ -37,9 +42,12 @@ def tokens_of(text: str) -> list[tuple[str, Any]]:
             raise ValueError(f"no token at {text[at:at + 10]!r}")
         at, written = match.end(), match.group()
         if match.lastgroup == "number":
-            found.append(("number", int(written, 0)))
+            found.append(("number", int(written.replace("_", ""), 0)))
         elif match.lastgroup == "letter":
-            found.append(("number", ord(written[1])))
+            found.append(("number", ESCAPES[written[2]] if len(written) == 4 else ord(written[1])))
+        elif match.lastgroup == "text":
+            parts = re.findall(r"\\.|.", written[1:-1])
+            found.append(("text", bytes(ESCAPES[part[1]] if len(part) == 2 else ord(part) for part in parts)))
         elif match.lastgroup != "blank":
             found.append((match.lastgroup or "", written))
     return [*found, ("end", "")]
@@ -176,6 +184,11 @@ class Reader:
             leave = self.leave()
             self.expect(";")
             return leave
+        if self.take("assert"):
+            condition = self.value()
+            self.expect(";")
+            fail = Tree("fail", {"value": Tree("number", {"value": ASSERTED})})
+            return Tree("if", {"condition": condition, "body": [], "other": [fail]})
         if self.take("dirty"):
             name = self.name()
             self.expect(";")
@@ -199,6 +212,10 @@ class Reader:
                 names.append(self.name())
             return Tree("lock", {"call": value, "names": names, "body": self.block()})
         if self.take("="):
+            kind, written = self.tokens[self.at]
+            if kind == "text":
+                self.at += 1
+                return Tree("write", {"place": value, "text": written})
             return Tree("set", {"place": value, "value": self.value()})
         return Tree("do", {"call": value})
 

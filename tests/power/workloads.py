@@ -185,7 +185,8 @@ def put(run: Run) -> None:
 def copy(run: Run) -> None:
     """A file is copied to areas of several sizes."""
     run.new("file.vm", 4096)
-    run.call("file.vm", "call make 64\nsave\ncall poke 0 7 @1\nupdate\n")
+    run.call("file.vm", "call make 64\nsave\n")
+    run.call("file.vm", "call poke 0 7 @1\nupdate\n")
     for n, area in enumerate((512, 1024, 65536, 1 << 20)):
         for option in ([], ["--saved"]):
             name = f"copy{n}{'saved' if option else ''}.vm"

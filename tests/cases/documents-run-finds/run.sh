@@ -1,7 +1,8 @@
-# Commands that print something other than a page says are reported, and with --write the page has what they print.
+# Commands that print something other than a page says, and quotes that are none, are reported; with --write the page has what they print.
 folder=$(mktemp -d)
 trap 'rm -rf "$folder"' EXIT
 mkdir "$folder/examples" "$folder/library"
+printf 'one (a\nb) two\nc d\n' >"$folder/examples/quoted.txt"
 cat >"$folder/page.md" <<'END'
 ```text note.txt
 one
@@ -27,6 +28,15 @@ echo this does not run
 
 ```text note.txt
 four
+```
+
+```text examples/quoted.txt
+(a b)
+  .. c d
+```
+
+```text examples/quoted.txt
+c d e
 ```
 
 ```console

@@ -84,6 +84,11 @@ print("completion:", len(typed), typed[:2], typed[-3:])
 source = "file:///source.tkv"
 tell(editor, "source", editor.open(source, SOURCE))
 tell(editor, "mended source", editor.change(source, SOURCE.replace("(c)", "(a)")))
+LIBRARY = "use std;\npub fn main(a) { out(mul(a, b))?; }\n"
+tell(editor, "library", editor.change(source, LIBRARY))
+tell(editor, "mended library", editor.change(source, LIBRARY.replace("b))", "a))")))
+tell(editor, "files", editor.change(source, 'use "other.tkv";\n' + LIBRARY))
+editor.change(source, SOURCE)
 print("definition:", [place(at["range"]) for at in editor.at("definition", source, 4, 10)])
 print("outline:", [symbol["name"] for symbol in editor.request("textDocument/documentSymbol", textDocument={"uri": source})])
 editor.notify("textDocument/didClose", textDocument={"uri": source})

@@ -1,5 +1,5 @@
 # Ten routines of strangers, each accepted by the verifier and public in a text of its own: each is refused if one effect is not granted, and
-# does its worst if all are. `--most-steps` refuses a budget.
+# does its worst if all are. `--most-steps` refuses a budget. At the end it is shown what grants leave.
 export LC_ALL=C
 folder=$(mktemp -d)
 trap 'rm -rf "$folder"' EXIT
@@ -158,3 +158,38 @@ most 18 run resells.asm file.vm script
 echo 'call resells' >script
 most 19 run resells.asm file.vm script
 most 18 call resells.asm <script
+
+echo "what grants leave:"
+"$program" new left.vm --area 4096
+printf 'call setup\nsave\n' | "$program" call "$top/tests/hostile/host.asm" --file left.vm
+# A lent block is read by its handle.
+routine turns <<'END'
+routine turns public budget 19
+    in s0=vm@
+    out s0=vm@
+    LDI w1 1
+    VLOCK s1 w1 e
+    LDI w1 16
+    DEREF s1 p1 w1 2 u
+    LDW w2 p1 0
+    OUT w2 u
+u:  VUNLOCK s1
+e:  RET
+END
+"$program" call turns.asm --file left.vm --grant output,reads-file turns @1
+# The map item is freed, and is still named.
+"$program" call "$top/tests/hostile/drops_item.asm" --file left.vm --update --grant changes-file drops_item @1
+"$program" dump left.vm | head -n 5
+# A lent block grows so far that the file has no room for a commit.
+routine swells <<'END'
+routine swells public budget 9
+    in s0=vm@
+    out s0=vm@
+    LDI w1 16
+    LDI w2 60000
+    VDIRTY s0
+    LREALLOC s0 w1 w2 e
+e:  RET
+END
+"$program" call swells.asm --file left.vm --update --grant changes-s0 swells @1
+echo "status $?"

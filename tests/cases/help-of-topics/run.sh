@@ -1,5 +1,5 @@
 # `geos help` has a topic for each instruction of docs/INSTRUCTIONS.md, with its operands, for each rule, each refusal and each fault of a
-# text. The tables of the program are those that tools/topics.py makes of the documents.
+# text; docs/CARD.md has each instruction. The tables of the program are those that tools/topics.py makes of the documents.
 export LC_ALL=C
 program=$1
 tables=$(mktemp)
@@ -12,8 +12,9 @@ for topic in V4 v14 "refused 4" "why 2" "no topic"; do
     "$program" help $topic 2>&1 | head -n 1
 done
 "$program" help "why 2" | head -n 1
-sed -n 's/^| [0-9a-f][0-9a-f] | \([A-Z]* *[^|]*[^ |]\) *|.*/\1/p' "$top/docs/INSTRUCTIONS.md" | while read -r text; do
+sed -n 's/^| \[[0-9a-f]*\][^|]* | \[\([A-Z]*\)\]([^)]*)\([^|]*[^ |]\)* *|.*/\1\2/p' "$top/docs/INSTRUCTIONS.md" | while read -r text; do
     "$program" help "${text%% *}" | head -n 1 | grep -qxF -- "$text" && echo found || echo "no topic: $text"
+    grep -qw "${text%% *}" "$top/docs/CARD.md" || echo "not on the card: $text"
 done | sort | uniq -c | sed 's/^ *//'
 for n in $(seq 14); do "$program" help "V$n" | grep -c '^Example: '; done | sort | uniq -c | sed 's/^ *//'
 for n in $(seq 15); do "$program" help refused "$n" | head -n 1; done | grep -c '^refused [0-9]* [A-Z]'

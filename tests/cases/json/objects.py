@@ -36,6 +36,7 @@ MEMBERS = {
     "group": BLOCK,
     "chunk": {**CHUNK, "block": NUMBER},
     "item": {**CHUNK, "group": NUMBER},
+    "page": {"file": TEXT, "shows": TEXT},
     "fault": {"message": TEXT},
     "end": {"status": NUMBER},
 }

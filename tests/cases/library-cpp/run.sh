@@ -1,5 +1,6 @@
 # The library for C++: takhvoi.hpp compiles without a warning, with exceptions and without, and refuses what would be used when it is gone;
-# its address book prints what those in the other languages do. Each compiler that is there does it.
+# its address book prints what those in the other languages do. Each compiler that is there does it. The routines of tests/hostile do the damage
+# that their table says.
 . "$top/tests/with_library.sh"
 
 strict="-std=c++17 -Wall -Wextra -Wpedantic -Wconversion -Werror -g -I. -I$top/library"
@@ -17,6 +18,12 @@ for compiler in c++ clang++; do
     [ "$(cat compiled)" = 0 ] || echo "$compiler compiles these misuses: $(cat compiled)"
     $compiler $strict -o book_program "$top/library/book.cpp" libtakhvoi.a || exit
 done
+c++ $strict -o by_cpp "$top/tests/hostile/by_cpp.cpp" libtakhvoi.a || exit
+
+hostile() {
+    ./by_cpp "$@"
+}
+. "$top/tests/hostile/judge.sh"
 
 book() {
     ./book_program "$@"

@@ -44,6 +44,15 @@ END
 printf 'It is kept.\n\nIt is kept, and one two three four five six seven.\n' >"$folder/inner/old.md"
 printf 'It is kept.\nIt is kept.\n' >"$folder/worse.md"
 cp "$folder/worse.md" "$folder/out/built.md"
-python3 -B "$top/tests/prose.py" "$folder" "$folder/data.toml"
+# A help, whose usage is not read; and a message, in which the routine's name is not read.
+printf 'Usage: geos kept\n\nIt is kept.\n  kept    `kept`\n' >"$folder/help"
+mkdir -p "$folder/tests/cases/one"
+printf '; refused by V10: a row is kept by kept\nkept\n' >"$folder/tests/cases/one/stdout"
+# Comments of a crate, over the end of a line; not its code, nor what a tool has made.
+mkdir -p "$folder/crates/one/specs" "$folder/crates/one/src"
+printf -- '-- It is stored.\nkept = 1\n-- `Kept`, and D\n-- it is kept\n' >"$folder/crates/one/specs/Kept.antt"
+printf '//! Made by tools/kept.py.\n// It is kept.\n' >"$folder/crates/one/src/made.rt"
+printf '    /// It is\n    /// kept.\n    let kept = 1; // kept\n' >"$folder/crates/one/src/lib.rt"
+python3 -B "$top/tests/prose.py" "$folder" "$folder/data.toml" "$folder/help"
 echo "with --all"
 python3 -B "$top/tests/prose.py" "$folder" "$folder/data.toml" --all | grep old

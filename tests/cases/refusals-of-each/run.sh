@@ -104,7 +104,7 @@ while [ "$number" -gt 0 ] && ! grep -qx "VUPDATE 13" pairs; do
 done
 
 echo "not tried:"
-sed -n 's/^| [0-9a-f]* | \([A-Z]*\) [^|]*|.*| \([0-9, ]*\) |$/\1 \2/p' "$top/docs/INSTRUCTIONS.md" | tr -d , |
+sed -n 's/^| \[[0-9a-f]*\][^|]* | \[\([A-Z]*\)\][^|]*|.*| \([0-9, ]*\) |$/\1 \2/p' "$top/docs/INSTRUCTIONS.md" | tr -d , |
     while read -r instruction numbers; do
         for number in $numbers; do
             grep -qx "$instruction $number" pairs || echo "$instruction $number"

@@ -66,6 +66,11 @@ page = pages.make(PROGRAM, FOLDER / "page.html", str(TOP / "examples/heap.asm"),
 chunk, at, length, digits = chunks(page)[0]
 print(chunk, len(digits) == 2 * length, "4d00" in digits)
 
-# Steps that are left out.
-page = pages.make(PROGRAM, FOLDER / "page.html", str(TOP / "examples/loop.asm"), "doubles", "--steps", "3")
-print(len(page.run["states"]), page.run["steps"])
+# Steps that are left out: the state before step 10 is the tenth one of the whole run.
+whole = pages.make(PROGRAM, FOLDER / "page.html", str(TOP / "examples/loop.asm"), "doubles").run
+for steps in "3", "10..12":
+    page = pages.make(PROGRAM, FOLDER / "page.html", str(TOP / "examples/loop.asm"), "doubles", "--steps", steps)
+    skipped, states = page.run["skipped"], page.run["states"]
+    print(len(states), skipped, page.run["steps"])
+    if states != whole["states"][skipped : skipped + len(states)] or page.run["traced"].split("\n")[: len(states)] != whole["traced"].split("\n")[skipped : skipped + len(states)]:
+        print("the steps differ from those of the whole run")

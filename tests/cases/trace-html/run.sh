@@ -5,10 +5,9 @@ folder=$(mktemp -d)
 trap 'rm -rf "$folder"' EXIT
 python3 -B "$here/check.py" "$top" "$1" "$folder"
 # The strings of the program are those that tools/page.py makes.
-mkdir "$folder/strings"
-python3 -B "$top/tools/page.py" "$folder/strings" && {
-    for file in "$folder/strings"/*; do cmp "$file" "$top/crates/geos_trace/src/${file##*/}" || exit; done
-    echo "the page is new"
+python3 -B "$top/tools/page.py" "$folder/crates" && {
+    (cd "$folder/crates" && find . -type f) | while IFS= read -r file; do cmp "$folder/crates/$file" "$top/crates/$file" || exit; done
+    echo "the pages are new"
 }
 # With --html, nothing else is chosen, and no page is written if nothing runs.
 cd "$folder" || exit 1

@@ -43,6 +43,7 @@ cp "$top/examples/add.tkv" other/deep/add.tkv
 same call "$folder/other/deep/add.tkv" add
 printf 'pub fn f() { x = 1; }\n' >other/deep/bad.tkv
 same check "$folder/other/deep/bad.tkv" --diagnostics
+same --color always check other/deep/bad.asm --diagnostics
 printf 'call add 2 3 => 5\ncall add 2 3 => 6\n' >tests
 same test other/deep/add.asm script tests
 same test "$folder/other/deep/add.asm" "$folder/tests" tests "$folder/tests"

@@ -23,6 +23,7 @@ proves asm --all-rows -- add.asm -image
 proves budget add.asm add.least
 proves budget add.asm --in-place
 proves --diagnostics call counter.asm --file counter.vm
+proves --color always new colored.vm
 proves copy counter.vm copy.vm
 proves dump counter.vm
 proves diff counter.vm copy.vm

@@ -5,11 +5,12 @@ STUB_WAITS=$folder/waits
 export STUB_WAITS
 : >"$STUB_WAITS"
 
-# stopped SIGNAL COMMAND..: the command in a process group of its own, to which the signal goes once its stand-in for rt is at work
+# stopped SIGNAL COMMAND..: the command in a process group of its own, to which the signal goes once its
+# stand-in for rt is at work. If the tests run under nohup, the command does not inherit that signals are ignored.
 stopped() {
     signal=$1
     shift
-    setsid "$@" >found 2>said </dev/null &
+    env --default-signal=HUP,INT,TERM setsid "$@" >found 2>said </dev/null &
     until_at_work 1
     sleep 0.3
     kill -s "$signal" -- -$!

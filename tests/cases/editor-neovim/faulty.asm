@@ -1,0 +1,4 @@
+routine add public budget 3
+        add w0 w0 w1
+        OUT w0 x
+x:      RET
