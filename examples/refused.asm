@@ -1,4 +1,4 @@
-; A routine for each rule of the verifier that a text can break (v2 also breaks V8): docs/ERRORS.md shows what `explain` prints for each.
+; A routine for each rule of the verifier that a text can break (v2 also breaks V8). docs/ERRORS.md has the cures.
 routine v1 budget 9
         JMP other
 routine v2 budget 9

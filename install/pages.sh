@@ -46,7 +46,7 @@ texts && version=$("$program" --version) && version=${version#geos } &&
     date=$(date -u -d "@${SOURCE_DATE_EPOCH:-$(stat -c %Y "$program")}" +%Y-%m-%d) || exit
 made man.awk -v program=geos -v version="geos $version" -v date="$date" >"$folder/geos.1" && see_also geos |
     { echo '.SH "SEE ALSO"' && cat; } >>"$folder/geos.1" &&
-    page geos-text "assembly texts of geos" "$formats" "Assembly texts" "$errors" Messages "Faults of a text" "No rows" &&
+    page geos-text "assembly texts of geos" "$formats" "Assembly texts" "$errors" Messages "No rows" &&
     page geos-script "sessions and scripts of geos" "$formats" "The session" &&
     page geos-image "images and listings of geos" "$formats" "The image" "The listing" || exit
 for shell in bash zsh fish; do

@@ -232,7 +232,8 @@ def answer(words: list[str]) -> int:
     elif flag == "--minutes":
         print(whole_minutes(crates.below(all_crates, crate.name)))
     elif sums:
-        take_all(all_crates, words, sums)
+        with locked():
+            take_all(all_crates, words, sums)
     elif flag == "--has" or not flag:
         if not is_built(crate, crates.sums(all_crates, crate.name)):
             if flag:

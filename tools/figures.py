@@ -96,7 +96,7 @@ def layers() -> str:
 
 def moving(instructions: str, mark: str) -> list[str]:
     """The instructions whose effect has a mark, in the order of their table."""
-    rows = re.findall(r"^\| [0-9a-f]{2} \| ([A-Z]+)[^|]*\|([^|]*)\|", instructions, re.M)
+    rows = re.findall(r"^\| \[[0-9a-f]{2}\]\S* \| \[([A-Z]+)\][^|]*\|([^|]*)\|", instructions, re.M)
     return [word for word, effect in rows if mark in effect]
 
 
@@ -171,7 +171,7 @@ def commit() -> str:
 
 def potential() -> str:
     drawing = Drawing("The potential falls by at least one at each step of the loop example")
-    listing = read("examples/README.md").split("## loop")[1].split("It prints")[0]
+    listing = read("examples/README.md").split("## loop")[1].split("`doubles` prints")[0]
     steps = re.findall(r"^\d+\s+([A-Z]+) ?[^;\n]*; (?:[^,\n]*, )?(\d+)(?: \+ (\d+) k0)? steps?$", listing, re.M)
     counter = int(re.findall(r"SETK k0 (\d+)", listing)[0])
     body = [(word, int(base), int(per)) for word, base, per in steps if per]
@@ -232,7 +232,7 @@ def host() -> str:
     drawing.arrow((463, 72), (396, 72))
     drawing.text(398, 90, "performed", "small")
     drawing.text(20, 132, "Until all steps are performed, commits, runs and changes return TAKHVOI_PENDING.", "small")
-    drawing.text(20, 150, "It is proved what the kernel notes. The host is trusted: it is a C file of the archive, or your own.", "small")
+    drawing.text(20, 150, "What the kernel notes is proved. The host is trusted: it is a C file of the library, or your own.", "small")
     return drawing.svg(164)
 
 

@@ -3,8 +3,8 @@
     python3 tools/topics.py [FILE]
 
 FILE is crates/geos_topics/src/tables.rt if it is not given. Instructions and refusals are those of docs/INSTRUCTIONS.md, rules those of
-docs/VERIFIER.md with the sentences and cures of docs/ERRORS.md, and the faults of a text those of docs/FORMATS.md. The example of an
-instruction is its first use in the texts of examples/.
+docs/VERIFIER.md with the sentences of the case explain-each-rule and the cures of docs/ERRORS.md, and the faults of a text those of
+docs/FORMATS.md. The example of an instruction is its first use in the texts of examples/.
 """
 
 import re
@@ -49,8 +49,8 @@ def listed(page: str, before: str) -> dict[str, tuple[str, str]]:
 
 
 def sentences() -> dict[str, str]:
-    """What `geos explain` says of a refusal by each rule, from the example in docs/ERRORS.md."""
-    text = (TOP / "docs" / "ERRORS.md").read_text()
+    """What `geos explain` says of a refusal by each rule, from what the case explain-each-rule prints."""
+    text = (TOP / "tests" / "cases" / "explain-each-rule" / "stdout").read_text()
     return dict(re.findall(r"^; refused by (V\d+): (.*)$", text, re.M))
 
 
@@ -95,7 +95,7 @@ def main() -> None:
         if text.split()[0] in examples:
             words += f"Example: {examples[text.split()[0]]}\n"
         instructions[text.split()[0]] = words
-    cures = listed("ERRORS.md", "What the sentences do not say")
+    cures = listed("ERRORS.md", "More cures")
     said = sentences()
     told = [
         f"{rule} {name}\n"

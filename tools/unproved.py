@@ -37,13 +37,15 @@ OWN_LINE = re.compile(rb"(interpreter|checked|races): |run=|rt: ")
 # Names that `rt try` keeps for itself in the folder in which the program runs.
 TAKEN = ("program", "stdin", "stdout", "stderr", "given")
 # The options of `geos` with a word after them.
-WITH_WORD = ("--file", "--grant", "--html", "--most-bytes", "--most-steps", "--only", "--region", "--script", "--steps")
-# The options of `call`, `test` and `trace` that name a VM file, or a file that is written.
-NEEDS_PROOF = ("--file", "--html")
+WITH_WORD = ("--color", "--file", "--grant", "--html", "--junit", "--most-blocks", "--most-bytes", "--most-steps", "--only", "--region", "--script", "--steps")
+# The options of `call`, `explain`, `test` and `trace` that name a VM file, or a file that is written.
+NEEDS_PROOF = ("--file", "--html", "--junit")
 # The options that may stand before the command.
-ANYWHERE = ("--diagnostics", "--no-warnings")
+ANYWHERE = ("--color", "--diagnostics", "--no-warnings")
 # The ending of the names of sources, by which the program knows them.
 SOURCE = ".tkv"
+# A line of a source that uses another file.
+USE = re.compile(rb'^use +"([^"\n]*)"[ \t]*;', re.MULTILINE)
 SCRIPT = "--script="
 
 
@@ -77,7 +79,10 @@ class Request:
     @property
     def first(self) -> int:
         """The place of the command, which options may precede."""
-        return next((place for place, word in enumerate(self.words) if word not in ANYWHERE), len(self.words))
+        place = 0
+        while place < len(self.words) and self.words[place].split("=")[0] in ANYWHERE:
+            place += 2 if self.words[place] in WITH_WORD else 1
+        return min(place, len(self.words))
 
     @property
     def command(self) -> str:
@@ -93,7 +98,7 @@ class Request:
         """Whether it may change a file, or reads a VM file."""
         if self.asks_for_help:
             return False
-        if self.command in ("call", "test", "trace"):
+        if self.command in ("call", "explain", "test", "trace"):
             return any(word in NEEDS_PROOF or word.startswith(tuple(f"{name}=" for name in NEEDS_PROOF)) for word in self.words)
         if self.command in ("budget", "fmt") and "--in-place" in self.words:
             return True
@@ -151,6 +156,12 @@ class Trial:
             name = f"given/{len(self.renamed)}{SOURCE if word.endswith(SOURCE) else ''}"
             self.renamed[name] = word
             self.words[place] = option + name
+        self.copy(name, word)
+
+    def copy(self, name: str, word: str) -> None:
+        """Gives the program the file that a word names under a name, and those that it uses if it is a source."""
+        if name in self.files:
+            return
         try:
             if not stat.S_ISREG(os.stat(word).st_mode):
                 raise Refused(f"an unproved run reads regular files only, and {word!r} is none; {CURE}")
@@ -164,6 +175,21 @@ class Trial:
                 raise Refused(f"an unproved run reads at most {MOST_INPUT} bytes, and {word!r} has more; {CURE}")
         finally:
             os.close(file)
+        if name.endswith(SOURCE):
+            self.copy_used(name, word)
+
+    def copy_used(self, name: str, word: str) -> None:
+        """Gives the program the files that a source uses, at the same places beside it."""
+        for found in USE.findall(self.files[name].read_bytes()):
+            used = found.decode(errors="replace")
+            there = os.path.normpath(os.path.join(os.path.dirname(name), used))
+            given = there.startswith("given/") and name.startswith("given/")
+            if os.path.isabs(used) or (there.split("/")[0] in ("..", *TAKEN) and not given):
+                raise Refused(f"an unproved run reads no file outside of the folder of the source, as {used!r}; {CURE}")
+            path = os.path.join(os.path.dirname(word), used)
+            if given:
+                self.renamed.setdefault(there, path)
+            self.copy(there, path)
 
     @property
     def names_scripts(self) -> bool:
@@ -173,7 +199,7 @@ class Trial:
     def restored(self, said: bytes) -> bytes:
         """A message of the program with the names that the caller gave, written as the program writes names."""
         names = {os.fsencode(name): shown(word) for name, word in self.renamed.items()}
-        return re.sub(rb"given/[0-9]+(?:\.tkv)?", lambda found: names.get(found[0], found[0]), said)
+        return re.sub(rb"given/[^\s:,]+", lambda found: names.get(found[0], found[0]), said)
 
 
 def shown(word: str) -> bytes:
