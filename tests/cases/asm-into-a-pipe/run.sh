@@ -14,7 +14,7 @@ mkfifo pipe
 ln -s pipe link
 for path in pipe link; do
     "$program" asm "$text" $path &
-    timeout 10 cmp pipe image && echo "$path"
+    timeout 60 cmp pipe image && echo "$path"
     wait
 done
 [ -p pipe ] && [ -L link ] && echo "they stay"

@@ -17,7 +17,7 @@ there() {
 # refused WORD..: a copy with these words; what is there is as it was
 refused() {
     there >"$folder/was"
-    timeout 20 "$program" copy "$@" >"$folder/said" 2>&1
+    timeout 60 "$program" copy "$@" >"$folder/said" 2>&1
     status=$?
     head -n 1 "$folder/said"
     echo "status $status"

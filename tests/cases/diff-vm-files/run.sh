@@ -9,7 +9,7 @@ program=$1
 # differ WORD..: what is printed, and the status
 differ() {
     echo "diff $*:"
-    timeout 20 "$program" diff "$@" 2>&1
+    timeout 60 "$program" diff "$@" 2>&1
     echo "status $?"
 }
 

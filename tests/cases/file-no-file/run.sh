@@ -11,11 +11,11 @@ ln -s pipe link
 python3 -c 'import socket; socket.socket(socket.AF_UNIX).bind("socket")'
 for file in pipe link socket /dev/null /dev/zero; do
     for command in "run kept.image $file get.script" "dump $file" "map $file"; do
-        timeout 20 "$program" $command 2>&1
+        timeout 60 "$program" $command 2>&1
         echo "status $?"
     done
 done
 # Nobody writes a script for a file that is none.
 mkfifo script
-timeout 20 "$program" run kept.image pipe script 2>&1
+timeout 60 "$program" run kept.image pipe script 2>&1
 echo "status $?"

@@ -24,12 +24,12 @@ program=$1
 "$program" asm text.asm image && "$program" new file.vm || exit 1
 
 # killed LINE: runs a call that prints a word, the line, and calls that run for long, and kills the program when it has printed a line,
-# or after ten seconds
+# or after a minute
 killed() {
     { printf 'call out 7\n%s\n' "$1"; yes 'call long' | head -n 100; } >script
     "$program" run image file.vm script >out &
     tries=0
-    until [ -s out ] || [ $tries -eq 100 ]; do
+    until [ -s out ] || [ $tries -eq 600 ]; do
         sleep 0.1
         tries=$((tries + 1))
     done

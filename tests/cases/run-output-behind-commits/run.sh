@@ -35,7 +35,7 @@ program=$1
 yes 'call long' | head -n 100 >long
 
 # killed NAME LAST: runs the script on a new file that has four blocks once and not twice, and then calls that run for long; kills the
-# program when it has printed the line LAST, or after ten seconds
+# program when it has printed the line LAST, or after a minute
 killed() {
     rm -f file.vm
     "$program" new file.vm --area 512
@@ -43,7 +43,7 @@ killed() {
     : >out
     "$program" run image file.vm all >out &
     tries=0
-    until grep -qx "$2" out || [ $tries -eq 100 ]; do
+    until grep -qx "$2" out || [ $tries -eq 600 ]; do
         sleep 0.1
         tries=$((tries + 1))
     done
