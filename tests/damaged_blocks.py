@@ -1,5 +1,5 @@
 """Sets each byte of two blocks of 64 bytes to each value, changes up to three of their words at random, and cuts them at each length; and
-compares what the program of `heap_trials` answers with a second reading of blocks: whether they are heaps, and with which chunks.
+compares what the program of `trials` answers with a second reading of blocks: whether they are heaps, and with which chunks.
 
     python3 damaged_blocks.py PROGRAM
 """
@@ -45,7 +45,7 @@ class Lines:
     """The lines that the program is given, each with what it must answer."""
 
     def __init__(self):
-        self.wanted = []
+        self.wanted = ["on_heap -> ok"]
         self.heaps = 0
 
     def ask(self, line, answer):

@@ -1,5 +1,5 @@
 """Sets each byte that is read of two VM files with one header to each value, and each other byte to some, and cuts the files at each length;
-and compares what the program of `file_trials` answers with a second reading of files: the directories and the bytes of blocks, or the
+and compares what the program of `trials` answers with a second reading of files: the directories and the bytes of blocks, or the
 offset of the first fault. Of a cut file it says only whether it is opened, or where the fault is.
 
     python3 damaged_files.py PROGRAM
@@ -50,7 +50,7 @@ class Lines:
     """The lines that the program is given, each with what it must answer."""
 
     def __init__(self):
-        self.wanted = []
+        self.wanted = ["on_file -> ok"]
         self.opened = 0
 
     def ask(self, line, answer="ok"):
@@ -114,7 +114,7 @@ class Lines:
 def runs(data):
     """Bytes as the program prints them."""
     counted = [(byte, len(list(same))) for byte, same in groupby(data)]
-    return " ".join(f"{byte}*{count}" if count > 1 else str(byte) for byte, count in counted)
+    return ", ".join(f"{byte} {count} times" if count > 1 else str(byte) for byte, count in counted)
 
 
 def shown(directory):

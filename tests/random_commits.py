@@ -1,5 +1,5 @@
 """Makes random lists of commits on a VM file, stops the device at each of its calls, and lets it lose or garble what was not synced. Compares
-what the program of `file_trials` answers, and the pair that it finds afterwards, with a plain model of the device and with the second
+what the program of `trials` answers, and the pair that it finds afterwards, with a plain model of the device and with the second
 reading of files. The pair that is found must be the one from before or the new one, as docs/FILES.md says for the call that failed.
 
     python3 random_commits.py PROGRAM

@@ -1,4 +1,4 @@
-"""Makes random lists of calls on a heap, and compares what the program of `heap_trials` answers with what a plain model does.
+"""Makes random lists of calls on a heap, and compares what the program of `trials` answers with what a plain model does.
 
     python3 random_heaps.py PROGRAM
 
@@ -202,7 +202,7 @@ def random_list(seed):
 
 
 def main():
-    wanted = [line for seed in range(1, LISTS + 1) for line in random_list(seed)]
+    wanted = ["on_heap -> ok"] + [line for seed in range(1, LISTS + 1) for line in random_list(seed)]
     asked = "".join(line.split(" -> ")[0] + "\n" for line in wanted)
     answered = subprocess.run(sys.argv[1:], input=asked, stdout=subprocess.PIPE, text=True, check=True).stdout.splitlines()
     for number, (line, answer) in enumerate(zip(wanted, answered), 1):

@@ -45,15 +45,6 @@ impl<R> From<Result<u16, R>> for Answer<R> {
     }
 }
 
-impl<R> From<Result<Answer<R>, &'static str>> for Answer<R> {
-    fn from(asked: Result<Answer<R>, &'static str>) -> Answer<R> {
-        match asked {
-            Ok(answer) => answer,
-            Err(obstacle) => Answer::NotAsked(obstacle),
-        }
-    }
-}
-
 impl<R: fmt::Display> fmt::Display for Answer<R> {
     fn fmt<W: fmt::Write>(&self, f: &mut fmt::Formatter<W>) -> fmt::Result {
         match self {

@@ -17,4 +17,4 @@ pub use line::{Line, MOST_NUMBERS, Reading, before_comment};
 pub use runs::Runs;
 pub use series::Series;
 pub use texts::{refused, shown, shown_done, shown_result, told};
-pub use trial::{Trial, carry_out, print_other, run};
+pub use trial::{Trial, carry_out};

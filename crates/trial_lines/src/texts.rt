@@ -20,28 +20,23 @@ pub fn shown<R, T: Debug + Drop>(alloc: Global, value: T) -> Result<Answer<R>, A
 }
 
 /// A call's value, or why it refuses, as they are written in code.
-pub fn shown_result<T: Debug + Drop, E: Debug + Drop>(
+pub fn shown_result<R, T: Debug + Drop, E: Debug + Drop>(
     alloc: Global,
     answer: Result<T, E>,
-) -> Result<Answer<String>, AllocError> {
+) -> Result<Answer<R>, AllocError> {
     match answer {
         Ok(value) => shown(alloc, value),
-        Err(why) => shown_refusal(alloc, why),
+        Err(why) => shown(alloc, why),
     }
 }
 
 /// That a call is done, or why it refuses, as it is written in code.
-pub fn shown_done<E: Debug + Drop>(
+pub fn shown_done<R, E: Debug + Drop>(
     alloc: Global,
     answer: Result<(), E>,
-) -> Result<Answer<String>, AllocError> {
+) -> Result<Answer<R>, AllocError> {
     match answer {
         Ok(()) => Ok(Answer::Done),
-        Err(why) => shown_refusal(alloc, why),
+        Err(why) => shown(alloc, why),
     }
-}
-
-/// Why a call refuses, as it is written in code.
-fn shown_refusal<E: Debug + Drop>(alloc: Global, why: E) -> Result<Answer<String>, AllocError> {
-    Ok(Answer::Refused(format!(in alloc; "{why:?}")?))
 }

@@ -52,14 +52,6 @@ fn for_each<T: Trial>(
     Ok(answers)
 }
 
-/// Prints a line again that has no call of the trial.
-pub fn print_other(rt: &impl Print, text: &str) -> io::Result<()> {
-    match Reading::of(text) {
-        Reading::Blank => println!(rt; "{text}"),
-        Reading::Call(_) | Reading::NotACall => println!(rt; "{text} -> not a call"),
-    }
-}
-
 /// Carries out a line, and prints it again with what it is answered.
 pub fn carry_out<T: Trial>(
     rt: &impl Print,
@@ -75,14 +67,7 @@ pub fn carry_out<T: Trial>(
             };
             println!(rt; "{text} -> {answers}")
         }
-        Reading::Blank | Reading::NotACall => print_other(rt, text),
+        Reading::Blank => println!(rt; "{text}"),
+        Reading::NotACall => println!(rt; "{text} -> not a call"),
     }
-}
-
-/// Carries out all lines of the input.
-pub fn run<T: Trial>(rt: &(impl Input + Print), alloc: Global, trial: &mut T) -> io::Result<()> {
-    for line in rt.lines(alloc) {
-        carry_out(rt, alloc, trial, line?.as_str())?;
-    }
-    Ok(())
 }

@@ -1,6 +1,6 @@
 # A sync of a file of the system fails once. A system may tell of a lost write once and then answer as if nothing were, so each later sync
 # fails too, without asking it, until something is written; a read changes nothing of that. The last lines are what the system was asked.
-trials=$("$top/build" file_trials) || exit
+trials=$("$top/build" trials) || exit
 calls=$(dirname "$0")/calls
 folder=$(mktemp -d)
 trap 'rm -rf "$folder"' EXIT

@@ -1,7 +1,7 @@
-//! What is to be committed: a directory, and blocks in memory.
+//! What is to be committed to a VM file: a directory, and blocks in memory.
 ghost use Rattle.std.specs.Prelude.{◌-◌, nat_le, if◌then◌else◌, slice_get, None};
 
-use crate::answer::Answer;
+use crate::Answer;
 use lmem_heap::{alloc, init};
 use std::alloc::{AllocError, Global};
 use trial_lines::Line;
@@ -32,25 +32,6 @@ pub(crate) struct InMemory {
     blocks: Vec<Block>,
 }
 
-impl InMemory {
-    /// No block.
-    fn new(alloc: Global) -> InMemory {
-        InMemory {
-            first: 0,
-            blocks: Vec::new(alloc),
-        }
-    }
-
-    /// A block for each handle from one to another, with this byte.
-    fn with_blocks(alloc: Global, first: u16, last: u16, byte: u8) -> Result<InMemory, AllocError> {
-        let mut blocks = Vec::new(alloc);
-        for h in first..=last {
-            blocks.push(block_with(h, byte))?;
-        }
-        Ok(InMemory { first, blocks })
-    }
-}
-
 impl Source for InMemory {
     ghost resident_bytes = { λ s h. if nat_le s.first h then slice_get s.blocks.items (h - s.first) else None };
 
@@ -77,49 +58,43 @@ impl Draft {
     pub(crate) fn new(alloc: Global) -> Draft {
         Draft {
             directory: Directory::new(),
-            memory: InMemory::new(alloc),
+            memory: InMemory {
+                first: 0,
+                blocks: Vec::new(alloc),
+            },
         }
     }
 
     /// Carries out a call on it.
     pub(crate) fn answer(&mut self, alloc: Global, line: &Line<'_>) -> Result<Answer, AllocError> {
-        let [first, second, third] = [line.word_at(0), line.word_at(1), line.word_at(2)];
+        let [first, second, third, ..] = line.words();
         match line.word {
             "no_block" => self.directory = Directory::new(),
-            "entry" => self.add(Entry {
-                h: first,
-                uid: second,
-                len: third,
-            }),
+            "entry" => self.add(first, second, third),
             "entries" => for h in first..=second {
-                self.add(Entry {
-                    h,
-                    uid: third,
-                    len: SIZE as u16,
-                });
+                self.add(h, third, SIZE as u16);
             },
             "map_block" => self.directory.map_block = first,
             "map_item" => self.directory.map_item = (first, second),
-            "resident" => self.memory = InMemory::with_blocks(
-                alloc,
-                first,
-                first,
-                line.byte_at(1),
-            )?,
-            "residents" => self.memory = InMemory::with_blocks(
-                alloc,
-                first,
-                second,
-                line.byte_at(2),
-            )?,
-            "absent" => self.memory = InMemory::new(alloc),
-            _ => return Ok(Answer::NotACall),
+            "resident" => self.fill(alloc, first, first, line.byte_at(1))?,
+            "residents" => self.fill(alloc, first, second, line.byte_at(2))?,
+            _ => self.memory.blocks = Vec::new(alloc),
         }
         Ok(Answer::Done)
     }
 
     /// Puts an entry after the others, where there is room for it.
-    fn add(&mut self, entry: Entry) {
-        let _ = self.directory.entries.try_push(entry);
+    fn add(&mut self, h: u16, uid: u16, len: u16) {
+        let _ = self.directory.entries.try_push(Entry { h, uid, len });
+    }
+
+    /// Puts into memory a block for each handle from one to another, with this byte, in the place of those that were there.
+    fn fill(&mut self, alloc: Global, first: u16, last: u16, byte: u8) -> Result<(), AllocError> {
+        let mut blocks = Vec::new(alloc);
+        for h in first..=last {
+            blocks.push(block_with(h, byte))?;
+        }
+        self.memory = InMemory { first, blocks };
+        Ok(())
     }
 }
