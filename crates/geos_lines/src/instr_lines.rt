@@ -11,8 +11,8 @@ ghost use Rattle.geos_lines.specs.Forms.{fits, kinds_of, IsOperand, StopsHere, S
 use crate::forms::{noun, put_form};
 use crate::other_machines::meaning_of;
 use crate::sentences::{
-    COMMENT, Wrong, begins_comment, other_file, put_above, put_quoted, put_too_much, put_word,
-    put_wrong,
+    COMMENT, CONSTANT, Wrong, begins_comment, other_file, put_above, put_quoted, put_too_much,
+    put_word, put_wrong,
 };
 use crate::words::{Word, word_from};
 use geos_opcodes::{FIELDS, OPCODES, Opcode, Operand, operand_at};
@@ -147,19 +147,53 @@ pub(crate) fn put_misfit(out: &mut Text, word: Word, misfit: Misfit) {
     }
 }
 
-/// Appends that a name is none that the text has.
+/// Appends that a name is none that the text has, and what begins a routine or a label of this name.
 fn put_undefined(out: &mut Text, opcode: Opcode, last: Option<Word>) {
-    let what = match opcode {
-        Opcode::Call => "; no routine",
-        _ => "; no label",
+    let (what, before, after) = match opcode {
+        Opcode::Call => ("; no routine", ": begin one by routine ", " budget N"),
+        _ => (
+            "; no label",
+            ": write ",
+            ": before an instruction of this routine",
+        ),
     };
     out.put(what);
     match last {
         Some(word) => {
             out.put(" has the name ");
-            put_word(out, word)
+            put_word(out, word);
+            out.put(before);
+            out.put_bytes(word.bytes);
+            out.put(after)
         }
         None => out.put(" has its name"),
+    }
+}
+
+/// The instruction that takes a word where this one requires a number.
+fn with_word(opcode: Opcode) -> Option<Opcode> {
+    match opcode {
+        Opcode::Ldi => Some(Opcode::Mov),
+        Opcode::Setk => Some(Opcode::Setkw),
+        Opcode::Ldb => Some(Opcode::Ldxb),
+        Opcode::Ldw => Some(Opcode::Ldxw),
+        Opcode::Stb => Some(Opcode::Stxb),
+        Opcode::Stw => Some(Opcode::Stxw),
+        _ => None,
+    }
+}
+
+/// Appends why a word is no operand of this kind, or which instruction takes it.
+fn put_stop(out: &mut Text, opcode: Opcode, kind: Operand, word: Word, misfit: Misfit) {
+    let is_word = register(b'w', 8, word.bytes).is_some();
+    match with_word(opcode) {
+        Some(other) if kind == Operand::Number && is_word => {
+            put_word(out, word);
+            out.put(" is no number: say ");
+            out.put(other.word());
+            out.put(", which takes a word")
+        }
+        _ => put_misfit(out, word, misfit),
     }
 }
 
@@ -176,9 +210,9 @@ fn put_operands(out: &mut Text, opcode: Opcode, line: &[u8], from: usize)
 {
     put_form(out, opcode);
     match stop_of(opcode, line, from) {
-        Stop::At(word, _, misfit) => {
+        Stop::At(word, kind, misfit) => {
             out.put("; ");
-            put_misfit(out, word, misfit)
+            put_stop(out, opcode, kind, word, misfit)
         }
         Stop::Missing(kind) => put_missing(out, noun(kind)),
         Stop::TooMuch(word) => {
@@ -306,7 +340,31 @@ fn is_small_name(word: &[u8]) -> bool {
     }
 }
 
-/// Appends another meaning that the author may have intended for a word: a file, a comment or a label.
+/// What helps with a line that begins with a point, as `.global` and `.byte`.
+const DIRECTIVE: &str =
+    ": a text has no directives: public in the line routine exports a routine, and LALLOC makes a chunk for bytes";
+
+/// What helps with a parenthesis.
+const MACRO: &str =
+    " is no instruction: write operands without parentheses, and for macros run m4 -s first";
+
+/// Whether a word is a register of any kind.
+fn is_register(word: &[u8]) -> bool {
+    register(b'w', 8, word).is_some()
+        || register(b'k', 4, word).is_some()
+        || register(b's', 4, word).is_some()
+        || register(b'p', 4, word).is_some()
+}
+
+/// Whether the word after another one gives that a value in other languages.
+fn gives_name(next: Option<Word>) -> bool {
+    match next {
+        Some(next) => { next.bytes.eq_ignore_ascii_case(b"equ") || next.bytes == b"=".as_slice() }
+        None => false,
+    }
+}
+
+/// Appends another meaning that the author may have intended for a word: a file, a comment, a register, a directive or a label.
 fn put_other(out: &mut Text, word: &[u8], next: Option<Word>) {
     if let Some(file) = other_file(word) {
         return out.put(file);
@@ -317,13 +375,17 @@ fn put_other(out: &mut Text, word: &[u8], next: Option<Word>) {
     if word == b"public".as_slice() {
         return out.put(": public follows the name, as routine add public budget 3");
     }
+    if is_register(word) {
+        return out.put(": a line begins with its instruction, as ADD w0 w0 w1");
+    }
+    if word.starts_with(b".") {
+        return out.put(DIRECTIVE);
+    }
     match next {
         Some(next) if Opcode::from_word(next.bytes).is_some() && name_of(word).is_some() => {
             put_label(out, word)
         }
-        Some(next) if next.bytes.eq_ignore_ascii_case(b"equ") || next.bytes == b"=".as_slice() => {
-            out.put(": numbers have no names; for #define run cpp -P first")
-        }
+        _ if gives_name(next) => out.put(CONSTANT),
         None if is_small_name(word) => put_label(out, word),
         _ => out.put(", and none of routine, in and out"),
     }
@@ -336,7 +398,7 @@ fn near(word: &[u8], next: Option<Word>) -> Option<&'static str> {
         Some(next) => Opcode::from_word(next.bytes).is_some(),
         None => false,
     };
-    if is_small_name(word) && (next.is_none() || begins_instr) {
+    if gives_name(next) || is_small_name(word) && (next.is_none() || begins_instr) {
         return None;
     }
     let meaning = if begins_instr { None } else { meaning_of(word) };
@@ -371,6 +433,10 @@ pub(crate) fn put_instr(out: &mut Text, line: &[u8], word: Word)
     }
     if word.bytes.ends_with(b":") {
         return put_wrong(out, word, Wrong::NoLabel);
+    }
+    if word.bytes.contains(&b'(') {
+        put_word(out, word);
+        return out.put(MACRO);
     }
     if word.bytes.starts_with(b"\xef\xbb\xbf")
         || word.bytes.contains(&b'\r')

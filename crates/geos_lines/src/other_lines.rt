@@ -210,6 +210,19 @@ fn put_item(out: &mut Text, item: Word, misfit: Misfit) {
     }
 }
 
+/// Appends which of the items of a line `out` is none, and that another word is the instruction, if the first one is a word: they begin at
+/// an index.
+pub(crate) fn put_out(out: &mut Text, line: &[u8], from: usize)
+    requires { from ≤ length line.now }
+{
+    put_items(out, line, from);
+    if let Some(word) = word_from(line, from)
+        && register(b'w', 8, word.bytes).is_some()
+    {
+        out.put("; the instruction is OUT")
+    }
+}
+
 /// Appends which of the items of a line is none, the first one: they begin at an index.
 pub(crate) fn put_items(out: &mut Text, line: &[u8], from: usize)
     requires { from ≤ length line.now }

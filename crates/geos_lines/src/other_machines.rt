@@ -1,14 +1,38 @@
 //! Words of other machines in place of an instruction.
 
 /// Words of other machines, and what to say here: the nearest instruction, and its page.
-const MEANINGS: [(&str, &str); 12] = [
+const MEANINGS: [(&str, &str); 21] = [
     (
-        "BNE JNE BNZ JNZ BNEZ BE JE BZ JZ BEQZ CMP CMPI TEST TST",
+        "BE JE BZ JZ BEQZ CMP CMPI TEST TST",
         "BEQ, which jumps if two words are equal (geos help BEQ)",
     ),
     (
-        "BGT BGE BLE BLTU BGEU BHI BLO JL JG JLE JGE JB JA JC JNC SLT",
+        "BNE JNE BNZ JNZ BNEZ",
+        "BEQ over a JMP: control comes to the JMP if the words differ (geos help BEQ)",
+    ),
+    (
+        "BLTU BLO JL JB JC SLT",
         "BLT, which jumps if a word is below another (geos help BLT)",
+    ),
+    (
+        "BGT BHI JG JA",
+        "BLT with the two words exchanged (geos help BLT)",
+    ),
+    (
+        "BGE BGEU BHS JGE JAE JNC",
+        "BLT over a JMP: control comes to the JMP if the first word is not below the second (geos help BLT)",
+    ),
+    (
+        "BLE BLS JLE JBE",
+        "BLT over a JMP, with the two words exchanged (geos help BLT)",
+    ),
+    (
+        "IF ELSE",
+        "BEQ or BLT, which jump to a label by two words (geos help BLT)",
+    ),
+    (
+        "WHILE FOR DO REPEAT",
+        "LOOP, which jumps back to a label as often as a counter says (geos help LOOP)",
     ),
     (
         "SHL LSL SAL SLL ASL MUL MULT IMUL",
@@ -19,8 +43,12 @@ const MEANINGS: [(&str, &str); 12] = [
         "SHR, which shifts to the right by a number, as by 1 to halve (geos help SHR)",
     ),
     (
-        "OR ORR ORI XOR EOR XORI",
-        "AND, and ADD and SUB: a or b is a + b - (a and b) (geos help AND)",
+        "OR ORR ORI",
+        "AND with a number n: a or n is a + n - (a and n) (geos help AND)",
+    ),
+    (
+        "XOR EOR XORI",
+        "AND with a number n: a xor n is a + n, less (a and n) twice; LDI for 0 (geos help AND)",
     ),
     ("NOT NEG", "SUB, from 65535 or from 0 (geos help SUB)"),
     (
@@ -46,6 +74,14 @@ const MEANINGS: [(&str, &str); 12] = [
     (
         "PRINT PUT WRITE ECHO SYSCALL INT",
         "OUT, which outputs a word (geos help OUT)",
+    ),
+    (
+        "PUSH POP",
+        "MOV to another word, or STW into a chunk, as there is no stack (geos help MOV)",
+    ),
+    (
+        "NOP",
+        "JMP to a label on the next line, or omit this line (geos help JMP)",
     ),
 ];
 

@@ -117,6 +117,9 @@ pub fn put_word(out: &mut Text, word: Word) {
     out.put_number(" at column ", column as u64)
 }
 
+/// What helps with the name of a number.
+pub(crate) const CONSTANT: &str = ": numbers have no names; for #define run cpp -P first";
+
 /// What helps if a word begins as a comment does in other languages.
 pub(crate) const COMMENT: &str =
     ": a comment begins with ;, and for lines as #define run cpp -P first";
@@ -177,6 +180,7 @@ fn also(word: &[u8], wrong: Wrong) -> Option<&'static str> {
         return None;
     }
     match letter {
+        b'w' if wrong.letter() == b'k' => Some(", and this is a word, which SETKW sets one to"),
         b'w' => Some(", and this is a word"),
         b'k' => Some(", and this is a counter, which SETK and SETKW set"),
         b's' => Some(", and this is a slot"),
@@ -186,8 +190,36 @@ fn also(word: &[u8], wrong: Wrong) -> Option<&'static str> {
     }
 }
 
+/// Whether a word is a digit or more after one sign, as `#5`.
+fn is_marked_number(word: &[u8]) -> bool {
+    let Some((sign, digits)) = word.split_first() else {
+        return false;
+    };
+    match digits.first() {
+        Some(digit) => digit.is_ascii_digit() && matches!(sign, b'#' | b'$' | b'='),
+        None => false,
+    }
+}
+
+/// Whether a word is like the names that `#define` gives to numbers: three capitals, digits and underscores or more, the first a capital.
+fn is_constant(word: &[u8]) -> bool {
+    let may_be = word.iter().all(|byte| byte.is_ascii_uppercase()
+        || byte.is_ascii_digit()
+        || *byte == b'_');
+    match word.first() {
+        Some(byte) => may_be && word.len() > 2 && byte.is_ascii_uppercase(),
+        None => false,
+    }
+}
+
 /// What helps with a word in place of a number.
 fn number_hint(word: &[u8]) -> Option<&'static str> {
+    if is_marked_number(word) {
+        return Some(": write only its digits");
+    }
+    if is_constant(word) {
+        return Some(CONSTANT);
+    }
     if word.starts_with(b"0x") || word.starts_with(b"0X") {
         Some(": write it in decimal digits, as 31 for 0x1f")
     } else if word.starts_with(b"-") {
@@ -232,15 +264,13 @@ pub(crate) fn put_wrong(out: &mut Text, word: Word, wrong: Wrong) {
 /// Appends that a number is past its bound.
 pub(crate) fn put_above(out: &mut Text, word: Word, bound: u32) {
     put_word(out, word);
-    out.put_number(" is above ", u64::from(bound))
+    out.put_number(" is above ", u64::from(bound));
+    out.put(": use a lower number")
 }
 
 /// Appends that a word is one too many.
 pub(crate) fn put_too_much(out: &mut Text, word: Word) {
     put_word(out, word);
     out.put(" is one too many");
-    match hint(word.bytes, usize::MAX) {
-        Some(hint) => out.put(hint),
-        None => {}
-    }
+    out.put(hint(word.bytes, usize::MAX).unwrap_or(": take it out"))
 }

@@ -3,7 +3,7 @@
 use crate::faulty::{FaultyLine, FaultyLines, faulty_lines};
 use crate::instr_lines::put_instr;
 use crate::names::{Statement, Twice};
-use crate::other_lines::{put_items, put_routine};
+use crate::other_lines::{put_items, put_out, put_routine};
 use crate::sentences::put_word;
 use crate::words::Word;
 use geos_source::Why;
@@ -101,7 +101,8 @@ fn put_form(out: &mut Text, statement: Statement) {
     }
     match Beginning::by(word.bytes) {
         Beginning::Routine => put_routine(out, line, word.end),
-        Beginning::In | Beginning::Out => put_items(out, line, word.end),
+        Beginning::In => put_items(out, line, word.end),
+        Beginning::Out => put_out(out, line, word.end),
         _ => put_instr(out, line, word),
     }
 }

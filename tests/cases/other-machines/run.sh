@@ -26,6 +26,23 @@ routine f public budget 99
         DIV w0 w0 w1
 end RET
 halt
+        BLE w0 w1 l
+        bge w0 w1 l
+        XOR w0 w0 w0
+        if w0 < w1
+        while w0
+        PUSH w0
+        NOP
+        w0 = w1
+        .byte 0
+        ADD(w0, w1)
+        LDI w0 w1
+        SETK k0 w0
+        LOOP w0 l
+        LDI w0 #5
+        LDI w0 SIZE
+        out w0 l
+        SIZE equ 8
 l:      RET
 E2
 "$program" explain words.asm 2>&1
