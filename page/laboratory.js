@@ -1,0 +1,194 @@
+// The laboratory: a text that is explained as one types, and a script that the machine runs.
+
+const given = JSON.parse($("given").textContent);
+// How many milliseconds after a key the text is explained.
+const REST = 120;
+
+const decoded = (base64) => Uint8Array.from(atob(base64), (c) => c.charCodeAt(0));
+
+async function unpacked(base64) {
+  const packed = new Blob([decoded(base64)]).stream().pipeThrough(new DecompressionStream("gzip"));
+  return new Uint8Array(await new Response(packed).arrayBuffer());
+}
+
+// The objects of the page of `explain`, from what it prints of a text.
+function objects_of(said) {
+  const found = [];
+  let line = null;
+  for (const row of said.split("\n")) {
+    const numbered = /^(\d+)\t/.exec(row);
+    const refused = /^; refused by (V\d+): (.*)$/.exec(row);
+    const fault = /^(?:line|at line) (\d+)(?:: |, )(.*)$/.exec(row);
+    if (numbered) line = +numbered[1];
+    else if (refused) found.push({ kind: "error", line, rule: refused[1], message: refused[2], cause_line: cause_of(refused[2], line) });
+    else if (fault) found.push({ kind: "error", line: +fault[1], message: fault[2] });
+  }
+  return found;
+}
+
+// The first other line that a sentence names.
+function cause_of(message, line) {
+  const named = [...message.matchAll(/\bline (\d+)/g)].map((one) => +one[1]);
+  return named.find((other) => other !== line) ?? null;
+}
+
+// Effects in the words of --grant, as the page has them.
+function effects_object({ kind, routine, said }) {
+  return { kind, routine, effects: said.split(", ").map((effect) => effect.replaceAll(" ", "-")).join(",") };
+}
+
+const escaped = (text) => text.replace(/&/g, "&amp;").replace(/</g, "&lt;").replace(/\r/g, "&#13;");
+
+class Laboratory {
+  constructor(library, page) {
+    [this.library, this.page] = [library, page];
+    this.timer = 0;
+  }
+
+  get text() {
+    return $("text").value;
+  }
+
+  choose(name) {
+    const example = given.examples.find((one) => one.name === name);
+    $("text").value = example.text;
+    $("script").value = example.script;
+    this.explain();
+    this.clear();
+  }
+
+  clear() {
+    $("output").replaceChildren();
+    $("blocks").replaceChildren();
+  }
+
+  // Explains the text when no key has been pressed for a while.
+  explain_soon() {
+    clearTimeout(this.timer);
+    this.timer = setTimeout(() => this.explain(), REST);
+  }
+
+  explain() {
+    const { said, line } = this.library.explain(this.text);
+    const effects = line === 0 ? this.effects() : [];
+    const is_text = /^\d+\t/m.test(said);
+    this.is_accepted = line === 0;
+    const objects = [{ kind: "page", file: $("example").value, shows: is_text ? "text" : "faulty" }, ...objects_of(said), ...effects.map(effects_object)];
+    const data = objects.map((object) => JSON.stringify(object) + "\n").join("");
+    const frame = $("explained");
+    const top = frame.contentWindow?.scrollY || 0;
+    frame.onload = () => frame.contentWindow.scrollTo(0, top);
+    frame.srcdoc = this.page.before + escaped(is_text ? said : this.text) + this.page.between + escaped(data) + this.page.after;
+    $("verdict").textContent = line === 0 ? "accepted" : is_text ? `refused at line ${line}` : `faulty at line ${line}`;
+    $("verdict").className = line === 0 ? "good" : "bad";
+    $("run").disabled = line !== 0;
+  }
+
+  // The effects of each routine of a text that is accepted.
+  effects() {
+    return this.with_kernel((kernel, image) => {
+      const names = [...this.text.matchAll(/^[ \t]*routine[ \t]+(\S+)/gm)].map((found) => found[1]);
+      return names.map((name) => ({ kind: "effects", routine: name, said: kernel.effects(image, name) }));
+    });
+  }
+
+  // What `work` returns of a new kernel with the image of the text.
+  with_kernel(work) {
+    const kernel = new Kernel(this.library);
+    try {
+      return work(kernel, kernel.load(this.library.assemble(this.text)));
+    } finally {
+      kernel.close();
+    }
+  }
+
+  // The slots that each public routine borrows, by its `in` lines.
+  borrows() {
+    const found = new Map();
+    let name = null;
+    for (const line of this.text.split("\n")) {
+      const words = line.split(";")[0].trim().split(/\s+/);
+      if (words[0] === "routine") {
+        name = words[2] === "public" ? words[1] : null;
+        if (name) found.set(name, []);
+      } else if (words[0] === "in" && name) {
+        for (const item of words.slice(1)) if (/^s[0-3]=vm!?@/.test(item)) found.get(name).push(+item[1]);
+      }
+    }
+    return found;
+  }
+
+  run() {
+    this.clear();
+    if (!this.is_accepted) return;
+    try {
+      const commands = read_script($("script").value);
+      this.with_kernel((kernel, image) => {
+        const run = new ScriptRun(kernel, image, this.borrows());
+        for (const command of commands) show_command(command, run.printed(command));
+        show_blocks(kernel);
+      });
+    } catch (fault) {
+      $("output").append(node("li", { class: "fault" }, fault.message));
+    }
+  }
+}
+
+function show_command(command, printed) {
+  const said = printed.join(" ");
+  const differs = command.expected !== null && command.expected !== said;
+  const name = command.commit || command.call.name;
+  $("output").append(node("li", {}, node("span", { class: "n" }, command.line), name,
+    node("span", { class: differs ? "printed differs" : "printed" }, differs ? `expected ${command.expected || "nothing"}, printed ${said || "nothing"}` : said || "\u2013")));
+}
+
+function chunk_part(bytes, chunk) {
+  const head = node("h3", {}, `chunk ${chunk}`, node("small", {}, `${bytes.length} bytes`));
+  const table = node("table", { class: "bytes" }, ...byte_rows([...bytes].slice(0, MOST_DRAWN), () => ""));
+  return node("div", { class: "chunk", style: `--hue: ${line_of(chunk)}` }, head, table);
+}
+
+function block_part(kernel, block, name, tags) {
+  const chunks = kernel.list("llist", block).map((chunk) => chunk_part(kernel.chunk(block, chunk), chunk));
+  return node("section", {}, node("h2", {}, name), ...tags.map((said) => node("span", { class: "tag" }, said)), ...chunks);
+}
+
+// The blocks of memory and of the file, as the kernel has them.
+function show_blocks(kernel) {
+  for (const handle of kernel.list("mlist")) {
+    if (kernel.call("mlock", [], handle)[0]) continue;
+    $("blocks").append(block_part(kernel, handle, `memory block ${handle}`, []));
+    kernel.call("unlock", [], handle);
+  }
+  for (const handle of kernel.list("vlist")) {
+    const [, user_id] = kernel.call("vuid", [16], handle);
+    const [, marked] = kernel.call("marked", [16], handle);
+    const tags = [`user ID ${user_id}`, ...(marked ? ["marked as changed"] : [])];
+    const items = kernel.list("ilist", handle);
+    const is_locked = kernel.call("vlock", [], handle)[0] === 0;
+    const part = is_locked ? block_part(kernel, VM + handle, `file block ${handle}`, tags)
+      : node("section", {}, node("h2", {}, `group ${handle}`), node("span", { class: "tag" }, `${items.length} items`));
+    $("blocks").append(part);
+    if (is_locked) kernel.call("unlock", [], VM + handle);
+  }
+  if (!$("blocks").children.length) $("blocks").append(node("p", { class: "quiet" }, "There are none."));
+}
+
+async function begin() {
+  const library = await Library.load(await unpacked(given.module), given.reasons);
+  const laboratory = new Laboratory(library, given.page);
+  window.laboratory = laboratory;
+  $("example").append(...given.examples.map(({ name }) => node("option", {}, name)));
+  $("example").addEventListener("change", () => laboratory.choose($("example").value));
+  $("text").addEventListener("input", () => laboratory.explain_soon());
+  $("run").addEventListener("click", () => laboratory.run());
+  document.addEventListener("keydown", (event) => {
+    if (event.key === "Enter" && event.ctrlKey) laboratory.run();
+  });
+  laboratory.choose(given.examples[0].name);
+}
+
+begin().catch((fault) => {
+  $("verdict").textContent = `This browser can't run the library: ${fault.message}`;
+  $("verdict").className = "bad";
+});

@@ -1,0 +1,51 @@
+"""What geos prints of the laboratory's examples, and of texts with mistakes, as JSON: `laboratory.py TOP GEOS`."""
+
+import json
+import re
+import subprocess
+import sys
+import tempfile
+from pathlib import Path
+
+TOP, GEOS = Path(sys.argv[1]), sys.argv[2]
+sys.path.insert(0, str(TOP / "tools"))
+
+import laboratory  # noqa: E402
+
+VERDICTS = {"accepted": r"\A(?!.*^; refused)\d+\t", "refused": r"^; refused by", "not assembled": ""}
+
+
+def geos(*words: str, given: str = "") -> str:
+    return subprocess.run([GEOS, *words], input=given, capture_output=True, text=True, check=False).stdout
+
+
+def explained(text: str) -> str:
+    with tempfile.NamedTemporaryFile("w", suffix=".asm") as file:
+        file.write(text)
+        file.flush()
+        done = subprocess.run([GEOS, "explain", file.name], capture_output=True, text=True, check=False)
+    return done.stdout or done.stderr
+
+
+def verdict(said: str) -> str:
+    return next(name for name, form in VERDICTS.items() if re.search(form, said, re.M | re.S))
+
+
+def mistakes() -> list[dict[str, str]]:
+    """The texts of the case mistakes, each after a line `== NAME`. The library does not read the output of cpp."""
+    whole = "".join((TOP / "tests/cases/mistakes" / name).read_text() for name in ("first", "second"))
+    texts = re.findall(r"^== (\S+)\n(.*?)(?=^== |\Z)", whole, re.M | re.S)
+    return [{"name": name, "text": text, "explained": explained(text)} for name, text in texts if not text.startswith("# 1 ")]
+
+
+def examples() -> list[dict[str, str]]:
+    found = []
+    for example in laboratory.examples():
+        said = explained(example["text"])
+        path = str(TOP / "examples" / example["name"])
+        printed = geos("call", path, given=example["script"]) if verdict(said) == "accepted" else ""
+        found.append({"name": example["name"], "verdict": verdict(said), "printed": printed})
+    return found
+
+
+print(json.dumps({"texts": mistakes(), "examples": examples()}))
