@@ -3,12 +3,17 @@
 use crate::fault::Fault;
 use geos_image::Image;
 use geos_lines::{Word, put_word};
+use script_commands::routine_named;
 use sentence_text::Text;
 
 /// The text about a word that is no command.
-fn text_of_command(word: Word) -> &'static str {
+fn text_of_command(image: &Image, word: Word) -> &'static str {
     if word.bytes.starts_with(b"\xef\xbb\xbf") {
         " is no command: the script begins with a byte order mark, which must go"
+    } else if word.bytes.starts_with(b"#") || word.bytes.starts_with(b"//") {
+        " is no command: a comment begins with ;"
+    } else if routine_named(image, word.bytes).is_some() {
+        " is no command but a routine: write call before it"
     } else {
         " is no command: commands are call, update, save and revert"
     }
@@ -25,6 +30,16 @@ fn text_of_number(word: Word) -> &'static str {
         TEXT_OF_TEST
     } else if word.bytes.starts_with(b"=>") {
         " is no number: write => and the output as two words, as => 55"
+    } else if word.bytes.starts_with(b"=") {
+        " is no number: a test has => and the output, as => 55"
+    } else if word.bytes.starts_with(b"#") || word.bytes.starts_with(b"//") {
+        " is no number: a comment begins with ;"
+    } else if word.bytes.contains(&b',') {
+        " is no number: separate words by spaces, without commas"
+    } else if word.bytes.starts_with(b"-") {
+        " is no number: add 65536 to a negative number, as 65535 for -1"
+    } else if word.bytes.starts_with(b"0x") || word.bytes.starts_with(b"0X") {
+        " is no number: write it in decimal digits, as 31 for 0x1f"
     } else {
         " is no number: a number has only decimal digits"
     }
@@ -127,7 +142,11 @@ fn put_call(out: &mut Text, image: &Image, fault: &Fault) {
         Fault::TooHigh(word) => put_said(out, word, " is above 65535: use a lower number"),
         Fault::PastBound(word, bound, index) => put_past(out, word, *bound, *index),
         Fault::NumberBehind(word) => put_said(out, word, text_of_number_behind(*word)),
-        Fault::NoHandle(word) => put_said(out, word, " is no block: a block is @ and its handle"),
+        Fault::NoHandle(word) => put_said(
+            out,
+            word,
+            " is no block: a block is @ and its handle, in one word, as @1",
+        ),
         Fault::HighHandle(word) => put_said(
             out,
             word,
@@ -176,7 +195,7 @@ fn put_naming(out: &mut Text, fault: &Fault) {
 pub(crate) fn put_fault(out: &mut Text, image: &Image, fault: Option<Fault>) {
     match fault {
         None => out.put("it is no command that may be asked for"),
-        Some(Fault::NoCommand(word)) => put_said(out, &word, text_of_command(word)),
+        Some(Fault::NoCommand(word)) => put_said(out, &word, text_of_command(image, word)),
         Some(Fault::Behind(word)) => put_said(out, &word, text_of_behind(word)),
         Some(fault) => put_call(out, image, &fault),
     }
