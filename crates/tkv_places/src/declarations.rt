@@ -3,7 +3,7 @@
 use crate::placed::NOWHERE;
 use crate::placer::added;
 use geos_opcodes::{Opcode, SlotUse};
-use std::alloc::Global;
+use std::alloc::{AllocError, Global};
 use tkv_syntax::{Fault, Item, ItemKind, NUMBERS, Name, Source, Why, name_at};
 
 /// The most declarations of a program, and the most fields of all structures.
@@ -31,6 +31,8 @@ pub(crate) struct Declaration {
     pub item: usize,
     /// Whether the routine makes no call that moves chunks, nor one of a routine.
     pub quiet: bool,
+    /// Whether a routine that was placed calls the routine.
+    pub called: bool,
 }
 
 /// A field of a structure.
@@ -116,6 +118,34 @@ impl Declared {
     /// The name at an offset of the source.
     pub(crate) fn name(&self, at: u32) -> Name {
         name_at(&self.source.text, at)
+    }
+
+    /// Notes that the routine with the index is called.
+    pub(crate) fn note_call(&mut self, index: u16) {
+        if let Some(global) = self.globals.get_mut(usize::from(index)) {
+            global.called = true;
+        }
+    }
+
+    /// Whether the item declares a routine of the source, not of the library, that is not public and that no placed routine calls.
+    fn is_uncalled(&self, global: &Declaration) -> bool {
+        let own = global.at < self.source.own && !global.called;
+        match self.item(global.item) {
+            Some(item) => own && matches!(item.kind, ItemKind::Fn) && item.a % 2 == 0,
+            None => false,
+        }
+    }
+
+    /// The items that declare routines which are not public and which no placed routine calls, in the order of the source, without those of
+    /// the library. `AllocError` if the allocator refuses memory.
+    pub fn uncalled(&self, alloc: Global) -> Result<Vec<usize>, AllocError> {
+        let mut items = Vec::new(alloc);
+        for global in &self.globals {
+            if self.is_uncalled(global) {
+                items.push(global.item)?;
+            }
+        }
+        Ok(items)
     }
 
     /// The fault of a name that is declared at two places. The library follows the source.
@@ -236,6 +266,7 @@ impl Declaring {
             value,
             item,
             quiet: true,
+            called: false,
         };
         let kept = added(&mut self.declared.globals, global);
         self.keep(kept, at);

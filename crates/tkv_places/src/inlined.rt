@@ -7,7 +7,7 @@ use crate::placer::{
     Construct, MOST_WORDS, Meaning, Operand, Placer, Running, Sort, Symbol, added,
 };
 use crate::state::bit;
-use tkv_syntax::{Item, ItemKind, NUMBERS, Name, Why};
+use tkv_syntax::{Item, ItemKind, Name, Why};
 
 impl Placer {
     /// Whether the routine of an item runs.
@@ -62,6 +62,9 @@ impl Placer {
                 self.stands_for(item, Meaning::Fixed, &operand);
             }
             Sort::Temporary if operand.register < MOST_WORDS => {
+                if self.given != 0 {
+                    self.given |= bit(operand.register);
+                }
                 self.state.facts |= bit(operand.register);
                 self.stands_for(item, Meaning::Word, &operand);
             }
@@ -98,12 +101,7 @@ impl Placer {
             self.refuse_for(Why::PastEnd, operand.at, operand.at, operand.value);
         }
         let mut pointer = operand;
-        pointer.structure = NOWHERE;
-        if item.a >= NUMBERS
-            && let Some(structure) = self.declared.find(&self.name(item.a - NUMBERS))
-        {
-            pointer.structure = structure.index;
-        }
+        pointer.structure = self.structure_in(item.a);
         self.stands_for(item, Meaning::Pointer, &pointer);
     }
 
@@ -162,7 +160,7 @@ impl Placer {
     fn result_word(&mut self, gives: bool, count: usize, at: u32) -> u8 {
         let register = if gives { self.lowest(count, at) } else { 0 };
         if register >= MOST_WORDS {
-            self.refuse(Why::NoWordLeft, at);
+            self.refuse_words(at);
         }
         register
     }
@@ -201,6 +199,7 @@ impl Placer {
         let frame = self.frame(Construct::Inlined, at);
         self.bind_parameters(routine.item, count, at);
         self.here = self.said_at(at);
+        self.declared.note_call(routine.index);
         self.begin(frame);
         self.run(running, at);
         self.start(count);

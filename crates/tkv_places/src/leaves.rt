@@ -94,6 +94,9 @@ impl Placer {
 
     /// What takes refusals begins: a block around all, and one around what may be refused. The number of the first.
     pub(crate) fn attempt(&mut self, construct: Construct, at: u32) -> u16 {
+        if !self.state.alive {
+            self.refuse(Why::Unreached, at);
+        }
         let mut frame = self.frame(construct, at);
         frame.level = self.block(at);
         self.block(at);

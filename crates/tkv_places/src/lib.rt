@@ -22,7 +22,9 @@ mod routine;
 mod state;
 mod statements;
 mod tests_of;
+mod uncalled;
 
 pub use declarations::{Declared, declare};
 pub use placed::{Placed, PlacedKind};
 pub use routine::{PlacedRoutine, place_routine};
+pub use uncalled::check_routine;

@@ -148,7 +148,7 @@ impl Placer {
         let low = counting.low;
         if counting.is_known() {
             self.known_turns(counting, at);
-        } else if counting.step != 1 {
+        } else if counting.step != 1 && self.given == 0 {
             self.refuse(Why::NoConstant, at);
         } else if low.is_constant() && low.value == 0 {
             let high = self.word_of(counting.high);

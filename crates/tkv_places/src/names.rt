@@ -6,7 +6,7 @@ use crate::declarations::Kind;
 use crate::placed::NOWHERE;
 use crate::placer::{Held, MOST_WORDS, Meaning, Operand, Placer, Sort, Symbol, added};
 use crate::state::{bit, fetched};
-use tkv_syntax::{Item, ItemKind, Name, Why};
+use tkv_syntax::{Fault, Item, ItemKind, NONE, Name, Why};
 
 /// A value with these fields.
 pub(crate) fn value(sort: Sort, at: u32, register: u8, number: u16) -> Operand {
@@ -190,12 +190,39 @@ impl Placer {
         }
     }
 
+    /// Where the names are declared that hold words. A parameter in a word of the caller has no word of its own.
+    fn holders(&self) -> [u32; 7] {
+        let mut holders = [NONE; 7];
+        for k in 0..self.symbols.len() {
+            let symbol = self.symbols[k];
+            let word = matches!(symbol.meaning, Meaning::Word | Meaning::Fixed);
+            let holds = if k < self.base {
+                word
+            } else {
+                word && symbol.last >= self.next && symbol.register >= self.callers
+            };
+            if symbol.register < 7 && holds {
+                holders[usize::from(symbol.register)] = symbol.at;
+            }
+        }
+        holders
+    }
+
+    /// Refuses the source since no word is left.
+    pub(crate) fn refuse_words(&mut self, at: u32) {
+        let holders = self.holders();
+        self.refuse_with(Fault {
+            holders,
+            ..Fault::new(Why::NoWordLeft, at)
+        });
+    }
+
     /// The lowest word that is free.
     pub(crate) fn take_word(&mut self, at: u32) -> u8
         ensures { result < 7 }
     {
         if self.words >= MOST_WORDS {
-            self.refuse(Why::NoWordLeft, at);
+            self.refuse_words(at);
             return 0;
         }
         let register = self.words;

@@ -124,7 +124,7 @@ impl Placer {
         }
         if !self.state.has(fetched(operand.register)) {
             let loss = self.lost[usize::from(operand.register)];
-            if loss.lost {
+            if loss.lost && self.state.alive {
                 self.refuse_for(Why::Stale, operand.at, loss.by, 0);
             } else {
                 self.refuse_unknown(Why::NotFetched, operand.at);
@@ -135,6 +135,9 @@ impl Placer {
 
     /// The number of a constant or of a structure's bytes.
     pub(crate) fn number_of(&mut self, operand: Operand) -> u16 {
+        if self.may_be_constant(&operand) {
+            return 65_535;
+        }
         if !matches!(operand.sort, Sort::Constant | Sort::Structure) {
             self.refuse(Why::NoConstant, operand.at);
         }
@@ -154,7 +157,7 @@ impl Placer {
             return register;
         }
         if !self.is_spare() {
-            self.refuse(Why::NoWordLeft, at);
+            self.refuse_words(at);
         }
         WHY
     }

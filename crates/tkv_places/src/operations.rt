@@ -98,6 +98,8 @@ impl Placer {
                     self.by_constant(item, left, right.value);
                 } else if left.is_constant() && turns {
                     self.by_constant(item, right, left.value);
+                } else if self.may_be_constant(&right) || self.may_be_constant(&left) && turns {
+                    self.by_constant(item, left, 1);
                 } else {
                     self.refuse(Why::NoInstruction, item.at);
                 }

@@ -240,6 +240,8 @@ pub(crate) struct Placer {
     pub floor: usize,
     /// Whether w7 has an operand of the next instruction.
     pub spare_taken: bool,
+    /// The words of an uncalled routine for which a call may give constants.
+    pub given: u32,
     /// How many items may be gone over still.
     pub effort: u32,
     /// The first fault, if there is one.
@@ -277,6 +279,7 @@ impl Placer {
             base: 0,
             floor: 0,
             spare_taken: false,
+            given: 0,
             effort: MOST_EFFORT,
             fault: None,
         }

@@ -23,18 +23,33 @@ pub struct PlacedRoutine {
     pub declared: Declared,
 }
 
+/// The outermost routine, by its item and the block to whose end `return` leaves: it has no result, and nothing of it can be refused further.
+pub(crate) fn outermost(routine: usize, level: u16) -> Running {
+    Running {
+        routine,
+        level,
+        refusable: false,
+        fails: NOWHERE,
+        gives: false,
+        register: 0,
+        back: 0,
+        base: 0,
+        floor: 0,
+        callers: 0,
+        handler: NOWHERE,
+        asks: false,
+    }
+}
+
 impl Placer {
     /// A parameter of a public routine.
     fn public_parameter(&mut self, item: &Item, entry: &mut Row) {
         match item.kind {
             ItemKind::WordParam => {
-                let register = self.take_word(item.at);
-                self.keep_word(register);
-                self.state.facts |= bit(register);
+                let register = self.own_word(item.at);
                 if item.b != NONE {
                     entry.bounds[usize::from(register)] = self.constant(item.b);
                 }
-                self.declare(Meaning::Word, item.at, register, 0, NOWHERE);
             }
             ItemKind::BlockParam if item.a == 1 => {
                 let slot = self.free_slot(item.at);
@@ -66,23 +81,7 @@ impl Placer {
         let level = self.block(head.at);
         let frame = self.frame(Construct::Routine, head.at);
         self.begin(frame);
-        self.run(
-            Running {
-                routine: index,
-                level,
-                refusable: false,
-                fails: NOWHERE,
-                gives: false,
-                register: 0,
-                back: 0,
-                base: 0,
-                floor: 0,
-                callers: 0,
-                handler: NOWHERE,
-                asks: false,
-            },
-            head.at,
-        );
+        self.run(outermost(index, level), head.at);
         entry
     }
 
@@ -96,6 +95,9 @@ impl Placer {
         if matches!(routine.construct, Construct::Inlined) {
             self.return_inlined(at);
             return false;
+        }
+        if self.state.alive && self.running.last().is_some_and(|call| call.gives) {
+            self.refuse(Why::Returns, at);
         }
         self.finish(at);
         self.end(at);
@@ -197,6 +199,25 @@ impl Placer {
         }
         false
     }
+
+    /// Places at most so many items of a routine that has begun, which is declared at a place. The last one ends it, unless there is a fault.
+    pub(crate) fn place_items(&mut self, at: u32, most: u32) {
+        for _ in 0..most {
+            if self.fault.is_some() {
+                return;
+            }
+            match self.declared.item(self.next) {
+                Some(item) => {
+                    self.next = self.next.saturating_add(1);
+                    if self.item(&item) {
+                        return;
+                    }
+                }
+                None => self.refuse(Why::NoEnd, at),
+            }
+        }
+        self.refuse(Why::TooMany, at);
+    }
 }
 
 /// Places a public routine of a program, by the item that declares it.
@@ -210,22 +231,7 @@ pub fn place_routine(
     };
     let mut placer = Placer::new(alloc, declared);
     let entry = placer.begin_routine(index, &head);
-    let mut ended = false;
-    for _ in 0..MOST_STEPS {
-        if ended || placer.fault.is_some() {
-            break;
-        }
-        match placer.declared.item(placer.next) {
-            Some(item) => {
-                placer.next = placer.next.saturating_add(1);
-                ended = placer.item(&item);
-            }
-            None => placer.refuse(Why::NoEnd, head.at),
-        }
-    }
-    if !ended {
-        placer.refuse(Why::TooMany, head.at);
-    }
+    placer.place_items(head.at, MOST_STEPS);
     match placer.fault {
         Some(fault) => Err(fault),
         None => Ok(PlacedRoutine {

@@ -1,5 +1,6 @@
 //! Faults of a source.
 
+use crate::item::NONE;
 use crate::words::Word;
 use std::alloc::{AllocError, AllocFailed};
 
@@ -107,7 +108,7 @@ pub enum Why {
     Stale,
     /// The pointer is not fetched on every path to this place.
     NotFetched,
-    /// There is no word left.
+    /// There is no word left; `holders` are the names that hold words.
     NoWordLeft,
     /// There is no pointer left.
     NoPointerLeft,
@@ -167,6 +168,8 @@ pub struct Fault {
     pub number: u16,
     /// A word of the language that it speaks of.
     pub word: Word,
+    /// Where the names are declared that hold w0 to w6; `NONE` for a word that no name holds.
+    pub holders: [u32; 7],
 }
 
 impl Fault {
@@ -178,6 +181,7 @@ impl Fault {
             other: at,
             number: 0,
             word: Word::End,
+            holders: [NONE; 7],
         }
     }
 }
