@@ -11,7 +11,7 @@ use geos_infer::{FindError, find_image};
 use geos_verify::{Checked, Reject, check};
 use std::alloc::{AllocError, Global};
 use tkv_checks::first_other;
-use tkv_places::{Declared, Placed, declare, place_routine};
+use tkv_places::{Declared, Placed, check_routine, declare, place_routine};
 use tkv_syntax::{Fault, ItemKind, Name, Why, name_at, parse_source};
 
 /// What a source is compiled to.
@@ -23,6 +23,8 @@ pub struct Compiled {
     pub placed: Vec<Vec<Placed>>,
     /// Of each instruction, where the source says it.
     pub places: Vec<u32>,
+    /// Where the source declares routines that no public routine calls.
+    pub uncalled: Vec<u32>,
 }
 
 /// The routines that are coded, and their instructions. After the first fault they do not matter.
@@ -35,6 +37,8 @@ struct Program {
     points: Vec<Point>,
     /// Of each instruction, where the source says it.
     places: Vec<u32>,
+    /// Where the source declares routines that no public routine calls.
+    uncalled: Vec<u32>,
     /// The first fault, if there is one.
     fault: Option<Fault>,
 }
@@ -118,6 +122,22 @@ fn public_routine(declared: &Declared, index: usize) -> Option<u32> {
     }
 }
 
+/// Checks routines that no public routine calls, by the items that declare them. Returns where they are declared.
+fn checked_alone(
+    alloc: Global,
+    mut declared: Declared,
+    routines: &[usize],
+) -> Result<Vec<u32>, Fault> {
+    let mut places = Vec::new(alloc);
+    for index in routines {
+        if let Some(item) = declared.items().get(*index) {
+            places.push(item.at)?;
+        }
+        declared = check_routine(alloc, declared, *index)?;
+    }
+    Ok(places)
+}
+
 /// The routines of a source, coded.
 fn program_of(alloc: Global, text: &[u8]) -> Result<Program, Fault> {
     let mut declared = declare(alloc, parse_source(alloc, text)?)?;
@@ -127,6 +147,7 @@ fn program_of(alloc: Global, text: &[u8]) -> Result<Program, Fault> {
         placed: Vec::new(alloc),
         points: Vec::new(alloc),
         places: Vec::new(alloc),
+        uncalled: Vec::new(alloc),
         fault: None,
     };
     for index in 0..declared.items().len() {
@@ -147,6 +168,8 @@ fn program_of(alloc: Global, text: &[u8]) -> Result<Program, Fault> {
             declared = routine.declared;
         }
     }
+    let uncalled = declared.uncalled(alloc)?;
+    program.uncalled = checked_alone(alloc, declared, &uncalled)?;
     if program.routines.is_empty() {
         return Err(Fault::new(Why::NoRoutine, 0));
     }
@@ -230,6 +253,7 @@ fn compile_or_fault(alloc: Global, text: &[u8]) -> Result<Compiled, Fault>
         placed,
         points,
         places,
+        uncalled,
         fault: _,
     } = program_of(alloc, text)?;
     let image = image_of(alloc, routines, points, &heads)?;
@@ -241,6 +265,7 @@ fn compile_or_fault(alloc: Global, text: &[u8]) -> Result<Compiled, Fault>
         checked,
         placed,
         places,
+        uncalled,
     })
 }
 

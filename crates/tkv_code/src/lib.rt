@@ -6,11 +6,13 @@
 mod compiler;
 mod emitter;
 mod lines;
+mod naming;
 mod sentence;
 mod skeleton;
 mod tidy;
 
 pub use compiler::{Compiled, compile};
 pub use lines::lines_of;
+pub use naming::put_uncalled;
 pub use sentence::put_sentence;
 pub use tkv_syntax::{Fault, Place, Why, place_of};

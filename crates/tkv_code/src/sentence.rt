@@ -1,12 +1,14 @@
 //! Faults as sentences.
 
+use crate::naming::{put_holders, put_name};
 use geos_opcodes::Opcode;
 use geos_text::put_numbered;
 use std::alloc::AllocError;
 use tkv_syntax::{Fault, LIBRARY, Name, Why, Word, name_at, place_of};
 
 /// The sentence of each fault, in the order of `Why`. `@` stands for the name at the fault's offset, `~` for the name at its other offset,
-/// `^` for the line of that, `#` for the number, `$` for the word, and `%` for what a call may have meant, or how it is written.
+/// `^` for the line of that, `#` for the number, `$` for the word, and `%` for what a call may have meant, or how it is written, or for the names
+/// that hold words.
 static SENTENCES: [(Why, &str); 73] = [
     (Why::Memory, "memory is refused"),
     (Why::TooLong, "a source has at most 1,048,576 bytes"),
@@ -183,7 +185,7 @@ static SENTENCES: [(Why, &str); 73] = [
     ),
     (
         Why::NoWordLeft,
-        "out of words: seven are taken here; { .. } ends names earlier, and a called routine takes words too",
+        "out of words: % hold all seven: use one for the last time before this, keep it in a chunk, or split the routine",
     ),
     (
         Why::NoPointerLeft,
@@ -267,7 +269,7 @@ static SENTENCES: [(Why, &str); 73] = [
     ),
     (
         Why::NoSteps,
-        "no bound on the steps of @ is found: bound the number of iterations by a test before the loop",
+        "@ may take more than 4,294,967,295 steps: test the number of iterations before a loop, as in if n <= 99 { .. }, or lower its max",
     ),
     (
         Why::OtherCode,
@@ -383,24 +385,6 @@ fn sentence_of(text: &[u8], fault: &Fault) -> &'static str {
     SENTENCES[fault.why as usize].1
 }
 
-/// The name at an offset of a source, which the library follows.
-fn name_in(text: &[u8], at: u32) -> Name {
-    match (at as usize).checked_sub(text.len()) {
-        Some(after) => name_at(LIBRARY.as_bytes(), after.min(65_535) as u32),
-        None => name_at(text, at),
-    }
-}
-
-/// Appends the name at an offset.
-fn put_name(out: &mut Vec<u8>, text: &[u8], at: u32) -> Result<(), AllocError> {
-    for byte in name_in(text, at) {
-        if byte != 0 {
-            out.push(byte)?;
-        }
-    }
-    Ok(())
-}
-
 /// Appends the form of the call, if its name has one, after the end of the word before it.
 fn put_form(out: &mut Vec<u8>, text: &[u8], fault: &Fault) -> Result<(), AllocError> {
     if fault.number != 1 {
@@ -450,10 +434,10 @@ fn put_meant(out: &mut Vec<u8>, text: &[u8], fault: &Fault) -> Result<(), AllocE
 
 /// Appends what `%` stands for.
 fn put_more(out: &mut Vec<u8>, text: &[u8], fault: &Fault) -> Result<(), AllocError> {
-    if matches!(fault.why, Why::Arguments) {
-        put_form(out, text, fault)
-    } else {
-        put_meant(out, text, fault)
+    match fault.why {
+        Why::Arguments => put_form(out, text, fault),
+        Why::NoWordLeft => put_holders(out, text, &fault.holders),
+        _ => put_meant(out, text, fault),
     }
 }
 
