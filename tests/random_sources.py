@@ -1,6 +1,7 @@
 """Makes random sources of the structured language, compiles and runs each with GEOS, and runs it again in Python by what its statements mean
 (language/meaning.py). Each call of a compiled source prints the same words and refusals both times. A source that is refused, also one that was
-changed at random, is refused in one line that has a line and a column of it, and never for a fault of the compiler.
+changed at random, is refused in one line that has a line and a column of it, and never for a fault of the compiler. Warnings name just the
+routines that no public routine calls, and such a routine is refused only if a call of it is refused too.
 
     python3 random_sources.py GEOS [COUNT [SEED]]
 """
@@ -16,7 +17,8 @@ from pathlib import Path
 sys.path.insert(0, str(Path(__file__).parent / "language"))
 
 from meaning import Program, Wrong  # noqa: E402
-from programs import Writer  # noqa: E402
+from programs import Writer, called  # noqa: E402
+from reading import uncalled  # noqa: E402
 
 CALLS = 12
 # Sources whose files get larger than this are left out: the file would have no room.
@@ -46,6 +48,24 @@ def printed(text: str, calls: list[Call]) -> list[str] | None:
     return lines
 
 
+def warned(geos: str, path: Path) -> list[str]:
+    """What `check` warns of."""
+    ran = subprocess.run([geos, "--diagnostics", "check", str(path)], capture_output=True, text=True, check=False)
+    return ran.stderr.splitlines()
+
+
+def warnings(path: Path, text: str) -> list[str]:
+    """What warnings are expected of a source."""
+    return [f"{path}:{line}: warning: {name} is never called from a public routine: call it, or remove it" for line, name in uncalled(text)]
+
+
+def refused(geos: str, path: Path, text: str) -> str:
+    """What came of a source that is refused: `refused`, or that it is accepted if a public routine calls each other one."""
+    path.write_text(called(text))
+    ran = subprocess.run([geos, "check", str(path)], capture_output=True, text=True, check=False)
+    return "refused" if ran.returncode else "only uncalled routines are refused, and called ones are not"
+
+
 def compare(geos: str, path: Path, seed: int) -> str:
     """What came of a source: `same`, `refused`, `large`, or how both differ."""
     writer = Writer(seed)
@@ -57,8 +77,10 @@ def compare(geos: str, path: Path, seed: int) -> str:
     command = [geos, "call", str(path), "--region", "16777216"]
     ran = subprocess.run(command, input=script, capture_output=True, text=True, check=False)
     if ran.returncode:
-        refused = FAULT.fullmatch(ran.stderr) and not ran.stdout and "fault of the compiler" not in ran.stderr
-        return "refused" if refused else f"status {ran.returncode}: {ran.stderr.strip()}"
+        told = FAULT.fullmatch(ran.stderr) and not ran.stdout and "fault of the compiler" not in ran.stderr
+        return refused(geos, path, text) if told else f"status {ran.returncode}: {ran.stderr.strip()}"
+    if warned(geos, path) != warnings(path, text):
+        return f"warns of {warned(geos, path)}, expected {warnings(path, text)}"
     try:
         expected = printed(text, calls)
     except Wrong as wrong:

@@ -3,6 +3,8 @@
 import random
 from dataclasses import dataclass, field, replace
 
+from reading import read
+
 KINDS = {"mlock": "mem", "mnew": "mem", "vlock": "vm", "vnew": "vm", "ilock": "group"}
 FRAME = """struct Pair { left: word, right: word, tag: byte, more: byte[3] }
 struct Both { head: byte, pairs: Pair[2], name: byte[3] }
@@ -15,8 +17,8 @@ SIZES = {"": 0, "Pair": 8, "Both": 20}
 @dataclass(frozen=True)
 class Known:
     """What statements may use at a place: words, those of them that can't be set, blocks with their kinds, pointers with their block, their
-    bytes and the structure that they lead to; whether a loop, and a path of refusals, is around; whether `why` is known; and what the names that
-    a `for` between constants counts are below."""
+    bytes and the structure that they lead to; whether a loop, and a path of refusals, is around; whether `why` is known; what the names that
+    a `for` between constants counts are below; and parameters that are constants in each call."""
 
     words: tuple[str, ...] = ()
     fixed: tuple[str, ...] = ()
@@ -27,6 +29,7 @@ class Known:
     fails: bool = True
     why: bool = False
     below: dict[str, int] = field(default_factory=dict)
+    constants: tuple[str, ...] = ()
 
     def with_word(self, *names: str) -> "Known":
         return replace(self, words=(*self.words, *names))
@@ -39,12 +42,38 @@ class Known:
 
 @dataclass
 class Routine:
-    """A routine that can be called: its parameters, each `word`, a kind of block or `pointer`, and whether it has a result or is refused."""
+    """A routine that can be called: its parameters, each `word`, `constant`, a kind of block or `pointer`, and whether it has a result or is
+    refused."""
 
     name: str
     parameters: list[str]
     result: bool
     fails: bool
+
+
+# How a public routine locks a block of a kind.
+LOCKED = {"mem": "mlock(1)? as {0} {{", "vm": "vlock(1)? as {0} {{", "group": "ilock(1, 16, 8)? as {0}, q{0} {{"}
+
+
+def called(text: str) -> str:
+    """The source with a public routine for each other one, which calls that."""
+    callers = []
+    for head in read(text):
+        if head.kind != "routine" or head.public:
+            continue
+        lines, names = [], []
+        for parameter in head.parameters:
+            constant = parameter.name.startswith("k")
+            names.append("2" if constant else "a" if parameter.kind == "word" else parameter.name)
+            if parameter.kind == "block":
+                lines.append(LOCKED[parameter.owner].format(parameter.name))
+            elif parameter.kind == "pointer":
+                lines.append(f"let {parameter.name} = deref({parameter.block}, 16, Pair)?;")
+        call = f"{head.name}({', '.join(names)}){'?' if head.fails else ''}"
+        lines.append(f"out({call})?;" if head.result else f"{call};")
+        ends = "}" * sum(parameter.kind == "block" for parameter in head.parameters)
+        callers.append(f"pub fn {head.name}_called(a) {{\n" + "\n".join(lines) + f"\n{ends}\n}}\n")
+    return text + "\n".join(callers)
 
 
 class Writer:
@@ -82,6 +111,11 @@ class Writer:
             known = known.with_word(word)
             written.append(word)
             kinds.append("word")
+        if self.chance(0.3):
+            constant = self.fresh("k")
+            known = replace(known, constants=(constant,))
+            written.append(constant)
+            kinds.append("constant")
         if self.chance(0.5):
             block, kind = self.fresh("b"), self.pick(["mem", "mem", "vm", "group"])
             known = replace(known, blocks={block: kind})
@@ -133,7 +167,7 @@ class Writer:
             return f"({sides[0]} {form} {sides[1]})"
         constants = {"&": [1, 3, 255], "*": [2, 3, 10], ">>": [1, 2, 8], "<<": [1, 3], "/": [2, 8, 256], "%": [2, 4, 16]}
         if form in constants:
-            return f"({self.changing(known, depth - 1)} {form} {self.pick(constants[form])})"
+            return f"({self.changing(known, depth - 1)} {form} {self.pick(known.constants or constants[form])})"
         if form == "access":
             return self.access(known)
         if form == "ask":
@@ -182,15 +216,17 @@ class Writer:
         for routine in fitting:
             arguments = self.arguments(routine, known)
             if arguments is not None:
-                return f"{routine.name}({', '.join(arguments)}){'?' if routine.fails else ''}"
+                return f"{routine.name}({', '.join(map(str, arguments))}){'?' if routine.fails else ''}"
         return None
 
-    def arguments(self, routine: Routine, known: Known) -> list[str] | None:
-        arguments: list[str] = []
+    def arguments(self, routine: Routine, known: Known) -> list[int | str] | None:
+        arguments: list[int | str] = []
         block = ""
         for kind in routine.parameters:
             if kind == "word":
                 arguments.append(self.value(known, 1))
+            elif kind == "constant":
+                arguments.append(self.pick([1, 2, 4, 8, *known.constants]))
             elif kind == "pointer":
                 fitting = [p for p, at in known.pointers.items() if at[0] == block and at[2] == "Pair"]
                 if not fitting:

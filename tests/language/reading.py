@@ -296,3 +296,24 @@ class Reader:
 def read(text: str) -> list[Tree]:
     """The declarations of a source. `ValueError` if it is none."""
     return Reader(text).program()
+
+
+def calls_in(part: Any) -> set[str]:
+    """The names that a part of a source calls."""
+    if isinstance(part, Tree):
+        own = {part.name} if part.kind == "call" else set()
+        return own.union(*map(calls_in, part.parts.values()))
+    return set().union(*map(calls_in, part)) if isinstance(part, list | tuple) else set()
+
+
+def uncalled(text: str) -> list[tuple[int, str]]:
+    """The routines that no public routine calls, each with its line."""
+    routines = {it.name: it for it in read(text) if it.kind == "routine"}
+    reached = {name for name, routine in routines.items() if routine.public}
+    left = list(reached)
+    while left:
+        found = (calls_in(routines[left.pop()]) & set(routines)) - reached
+        reached |= found
+        left += found
+    lines = {name: text.count("\n", 0, re.search(rf"\bfn {name}\(", text).start()) + 1 for name in routines}
+    return sorted((lines[name], name) for name in set(routines) - reached)

@@ -49,7 +49,7 @@ pub fn assemble<'a>(
     image: &'a str,
 ) -> Result<Runnable<'a>, TextFault<'a>> {
     if is_source(text) {
-        let made = Runnable::read(rt, text)?;
+        let made = read_and_warn(rt, reports, text)?;
         write(rt, image, &made.image, text)?;
         return Ok(made);
     }
@@ -62,6 +62,7 @@ pub fn assemble<'a>(
                 lines: made.lines,
                 text: bytes,
                 marks,
+                told: Vec::new(rt.alloc()),
             };
             warn(rt, reports, &made);
             write(rt, image, &made.image, text)?;
@@ -121,6 +122,7 @@ fn refused<'a>(
                 lines: Some(made.lines),
                 text: Vec::new(alloc),
                 marks,
+                told: Vec::new(alloc),
             },
             reject,
         }),

@@ -79,6 +79,8 @@ pub struct Runnable<'a> {
     pub text: Vec<u8>,
     /// The line marks of the text.
     pub marks: LineMarks,
+    /// The warnings about a source. Those about a text are found when they are required.
+    pub(crate) told: Vec<u8>,
 }
 
 impl<'a> Runnable<'a> {
@@ -109,6 +111,7 @@ impl<'a> Runnable<'a> {
                 lines,
                 text,
                 marks,
+                told: Vec::new(alloc),
             }),
             Err(NotMade { text, fault }) => Err(TextFault::Assemble(FaultyText::new(
                 alloc, path, text, marks, fault,
@@ -150,8 +153,8 @@ impl<'a> Runnable<'a> {
         }
     }
 
-    /// Warnings about a text whose image the verifier accepts: lines `FILE:LINE: warning: ..`. Empty if there are none, or if there is no
-    /// memory.
+    /// Warnings about a source, or about a text whose image the verifier accepts: lines `FILE:LINE: warning: ..`. Empty if there are none, or
+    /// if there is no memory.
     pub fn warnings(&self, alloc: Global) -> Vec<u8> {
         match self.warned(alloc) {
             Ok(told) => told,
@@ -165,7 +168,7 @@ impl<'a> Runnable<'a> {
         };
         // The author of a source did not write its instructions.
         if is_source(self.path) {
-            return Ok(Vec::new(alloc));
+            return Ok(Vec::from_slice(alloc, &self.told)?);
         }
         let path = Named(self.path);
         let file = format!(in alloc; "{path}")?;

@@ -7,7 +7,7 @@ use geos_shell::Named;
 use line_marks::LineMarks;
 use std::alloc::{AllocError, Global};
 use std::fmt::{self, Display, Formatter};
-use tkv_code::{Compiled, Place, compile, lines_of, place_of, put_sentence};
+use tkv_code::{Compiled, Place, compile, lines_of, place_of, put_sentence, put_uncalled};
 
 /// Whether the path names a source: it ends with `.tkv`.
 pub(crate) fn is_source(path: &str) -> bool {
@@ -83,6 +83,28 @@ impl<'a> FaultySource<'a> {
     }
 }
 
+/// Warnings about routines that no public routine calls, by their places. Files that the source uses may have such routines.
+fn warnings_of(
+    alloc: Global,
+    path: &str,
+    text: &[u8],
+    marks: &LineMarks,
+    uncalled: &[u32],
+) -> Result<Vec<u8>, AllocError> {
+    let mut told = Vec::new(alloc);
+    for at in uncalled {
+        let place = marks.place(place_of(text, *at).line as u64);
+        if place.file.is_none() {
+            let (path, line) = (Named(path), place.line);
+            let head = format!(in alloc; "{path}:{line}: warning: ")?;
+            told.extend_from_slice(head.as_bytes())?;
+            put_uncalled(&mut told, text, *at)?;
+            told.push(b'\n')?;
+        }
+    }
+    Ok(told)
+}
+
 /// The image of what was compiled.
 fn runnable<'a>(
     alloc: Global,
@@ -91,12 +113,14 @@ fn runnable<'a>(
     marks: LineMarks,
     compiled: &Compiled,
 ) -> Result<Runnable<'a>, AllocError> {
+    let told = warnings_of(alloc, path, text, &marks, &compiled.uncalled)?;
     Ok(Runnable {
         path,
         image: write(alloc, compiled.checked.image())?,
         lines: Some(lines_of(alloc, text, &compiled.places)?),
         text: Vec::new(alloc),
         marks,
+        told,
     })
 }
 
