@@ -34,6 +34,9 @@ pub enum RunFault<'a> {
     /// No routine has the name whose steps are requested.
     #[error("no routine {}", Named(.0))]
     NoSuchRoutine(&'a str),
+    /// The routine has no instruction at the line, or with the label, whose steps are requested.
+    #[error("routine {} has no instruction at {}: trace without '--break' shows lines and labels", Named(.0), Named(.1))]
+    NoLine(&'a str, &'a str),
     /// What a call gives as this word is no number that the word may be.
     #[error("bad call: w{} can't be {}", .0, Named(.1))]
     BadNumber(usize, &'a str),

@@ -4,6 +4,7 @@
 
 mod bad_lines;
 mod calling;
+mod choosing;
 mod chunks;
 mod ending;
 mod fault;

@@ -2,6 +2,7 @@
 
 ghost use Rattle.vm_blocks.specs.Listed.{NoneLocked};
 
+use crate::choosing::Chosen;
 use crate::fault::RunFault;
 use crate::tracing::{Traceable, budget_of, noted_call, refused_text, text_of, trace_fault};
 use geos_cli::{ScriptFault, TracedCall, trace_call_watched};
@@ -36,7 +37,7 @@ fn page_of(
     } else {
         None
     };
-    let text = text_of(alloc, words, origins, traced)?;
+    let text = text_of(alloc, words, origins, traced, &Chosen::all())?;
     let told = Told {
         file: shown.path,
         name: words.call.name,

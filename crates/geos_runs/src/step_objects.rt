@@ -1,5 +1,6 @@
 //! The notes on a run as JSON objects.
 
+use crate::choosing::Chosen;
 use crate::objects::put_outcome;
 use crate::tracing::steps_shown;
 use geos_cli::TracedCall;
@@ -89,6 +90,7 @@ pub(crate) fn trace_objects(
     words: &TraceWords<'_>,
     origins: Option<&[Origin<'_>]>,
     call: &TracedCall,
+    chosen: &Chosen,
 ) -> Result<Vec<u8>, AllocError> {
     let image = call.checked.image();
     let traced = Traced {
@@ -105,7 +107,9 @@ pub(crate) fn trace_objects(
         let mut number = u64::from(words.skipped);
         for noted in steps_shown(words, call) {
             number = number.saturating_add(1);
-            traced.put_step(&mut objects, number, noted)?;
+            if chosen.has(&words.choice, number, noted) {
+                traced.put_step(&mut objects, number, noted)?;
+            }
         }
     }
     put_outcome(&mut objects, call);

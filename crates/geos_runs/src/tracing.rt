@@ -3,18 +3,20 @@
 ghost use Rattle.vm_blocks.specs.Listed.{NoneLocked};
 ghost use Rattle.geos_shell.specs.Limits.{IsRegion};
 
+use crate::choosing::Chosen;
 use crate::fault::RunFault;
 use crate::manner::call_fault;
 use crate::objects::refused_object;
 use crate::paging::{Shown, page_on};
 use crate::step_objects::trace_objects;
-use geos_cli::{NotedCall, ScriptFault, TraceFault, TracedCall, trace_call};
+use geos_cli::{NotedCall, ScriptFault, TraceFault, TracedCall, trace_call, trace_call_watched};
 use geos_files::{Locked, opened, wait_for};
 use geos_image::Image;
-use geos_kernel::{Kernel, kernel_in_memory};
+use geos_kernel::{Kernel, Name, kernel_in_memory};
 use geos_machine::Noted;
-use geos_shell::{Lockable, Room, Sharing, TraceWords, print};
-use geos_trace::{put_counts, put_end, put_refused, put_steps};
+use geos_shell::{Chunk, Lockable, Room, Sharing, TraceWords, print};
+use geos_terms::Refusal;
+use geos_trace::{ChunkWatch, put_counts, put_end, put_refused, put_step};
 use line_marks::Origin;
 use std::alloc::{AllocError, Global};
 use vm_file::Device;
@@ -43,7 +45,7 @@ pub(crate) fn budget_of(image: &Image, routine: u16) -> u32 {
     }
 }
 
-/// The steps that are shown of those that were noted.
+/// The steps that may be shown of those that were noted.
 pub(crate) fn steps_shown<'t>(words: &TraceWords<'_>, traced: &'t TracedCall) -> &'t [Noted] {
     traced
         .trace
@@ -58,13 +60,20 @@ pub(crate) fn text_of(
     words: &TraceWords<'_>,
     origins: Option<&[Origin<'_>]>,
     traced: &TracedCall,
+    chosen: &Chosen,
 ) -> Result<Vec<u8>, AllocError> {
     let image = traced.checked.image();
     let mut out = Vec::new(alloc);
     if words.count {
         put_counts(&mut out, image, origins, &traced.trace)?;
     } else {
-        put_steps(&mut out, image, origins, steps_shown(words, traced))?;
+        let mut number = u64::from(words.skipped);
+        for noted in steps_shown(words, traced) {
+            number = number.saturating_add(1);
+            if chosen.has(&words.choice, number, noted) {
+                put_step(&mut out, image, origins, noted)?;
+            }
+        }
     }
     put_end(&mut out, &traced.outcome, budget_of(image, traced.routine))?;
     Ok(out)
@@ -100,6 +109,67 @@ pub(crate) fn noted_call<'w, 'a>(
     }
 }
 
+/// The name of the block with a chunk.
+fn name_of(chunk: &Chunk) -> Name {
+    if chunk.in_memory {
+        Name::mem(chunk.block)
+    } else {
+        Name::vm(chunk.block)
+    }
+}
+
+/// Runs it on a kernel of whose VM file no block is locked, and chooses the steps that change a chunk, if that is requested.
+fn run_watched<'a, D: Device + Drop>(
+    alloc: Global,
+    words: &TraceWords<'a>,
+    image: &[u8],
+    kernel: &mut Kernel<D>,
+    chosen: &mut Chosen,
+) -> Result<Result<TracedCall, Refusal>, RunFault<'a>>
+    requires { NoneLocked kernel.old.core.blocks }
+{
+    let most = if words.count { 0 } else { words.steps as usize };
+    let noted = noted_call(words, image, most);
+    let Some(chunk) = &words.choice.chunk else {
+        return match trace_call(alloc, &noted, kernel) {
+            Ok(traced) => Ok(traced),
+            Err(fault) => Err(trace_fault(words, fault)),
+        };
+    };
+    let image = image_of(alloc, image)?;
+    let mut watch = ChunkWatch::new(alloc, &image, name_of(chunk), chunk.chunk, words.steps);
+    match trace_call_watched(alloc, &noted, kernel, &mut watch) {
+        Ok(traced) => {
+            let numbers = watch.changing().map_err(|_| ScriptFault::Memory)?;
+            let numbers = Vec::from_slice(alloc, numbers).map_err(|_| ScriptFault::Memory)?;
+            chosen.limit(numbers);
+            Ok(traced)
+        }
+        Err(fault) => Err(trace_fault(words, fault)),
+    }
+}
+
+/// The image that bytes encode.
+fn image_of(alloc: Global, bytes: &[u8]) -> Result<Image, ScriptFault> {
+    match geos_image::read(alloc, bytes) {
+        Ok(image) => Ok(image),
+        Err(error) => Err(ScriptFault::from(error)),
+    }
+}
+
+/// The steps at the lines that are requested.
+fn chosen_lines<'a>(
+    alloc: Global,
+    words: &TraceWords<'a>,
+    traceable: &Traceable<'_>,
+) -> Result<Chosen, RunFault<'a>> {
+    if words.choice.lines.is_empty() {
+        return Ok(Chosen::all());
+    }
+    let image = image_of(alloc, traceable.image)?;
+    Chosen::at_lines(alloc, &image, traceable.origins, &words.choice)
+}
+
 /// Runs it on a kernel of whose VM file no block is locked, and prints what was noted.
 fn trace_on<'a, D: Device + Drop>(
     rt: &HostRuntime,
@@ -115,16 +185,13 @@ fn trace_on<'a, D: Device + Drop>(
         return page_on(rt, words, traceable, shown, path, kernel);
     }
     let alloc = rt.alloc();
-    let most = if words.count { 0 } else { words.steps as usize };
-    let noted = noted_call(words, traceable.image, most);
-    let traced = match trace_call(alloc, &noted, kernel) {
-        Ok(traced) => traced,
-        Err(fault) => return Err(trace_fault(words, fault)),
-    };
+    let origins = traceable.origins;
+    let mut chosen = chosen_lines(alloc, words, traceable)?;
+    let traced = run_watched(alloc, words, traceable.image, kernel, &mut chosen)?;
     let text = match traced {
-        Ok(traced) if traceable.json => trace_objects(alloc, words, traceable.origins, &traced),
+        Ok(traced) if traceable.json => trace_objects(alloc, words, origins, &traced, &chosen),
         Err(refusal) if traceable.json => refused_object(alloc, refusal.number()),
-        Ok(traced) => text_of(alloc, words, traceable.origins, &traced),
+        Ok(traced) => text_of(alloc, words, origins, &traced, &chosen),
         Err(refusal) => refused_text(alloc, refusal.number()),
     };
     match text {

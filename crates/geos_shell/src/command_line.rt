@@ -44,6 +44,7 @@ fn option_of<'a>(arg: Arg<'a>, kind: char, value: &'a str) -> Arg<'a> {
     }
     let arg = arg.value_name(if kind == '#' { "N" } else { value });
     match kind {
+        '&' => arg.action(ArgAction::Append),
         '#' => arg.allow_hyphen_values(true).default_value(value),
         '~' => arg.value_parser(WHENS.as_slice()),
         _ => arg,

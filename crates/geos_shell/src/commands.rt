@@ -10,6 +10,7 @@
 //!   =name          a flag of all commands
 //!   ~name=WHEN     one of the words `auto`, `always` and `never` after a name of all commands
 //!   :name=WORD     a word after a name
+//!   &name=WORD     a word after a name, any number of times
 //!   #name=10       a number after a name, and its default
 //! A table of structs costs much more to prove, since a proof goes over each byte of a table's texts.
 
@@ -125,7 +126,11 @@ trace Runs one routine, and prints each step, or how often each line ran
 #most-blocks=1024 How many blocks of memory there may be, 0 to 1024; one more is refused 5
 #region=1048576 How many bytes of memory the blocks have, 65536 to 16777216
 #steps=10000 How many steps are printed at most, 0 to 1000000; or A..B, the first and the last one
+:from=STEP The first step that is printed, 1 to 1000000; those after it follow, up to step 1000000
 :only=ROUTINE The routine whose steps are printed
+&break=ROUTINE:LINE Prints only the steps at this line or label of the routine; may be given several times
+&when=CONDITION Prints only the steps after which it is true, as w3>48 or k0=0; may be given several times
+:watch=H:C Prints only the steps that change the chunk C of the block H of FILE, or as mem:H:C of memory
 -count Prints how often each instruction ran, in place of the steps
 :html=OUT The file that a page of the run goes to, in place of the steps; `-` is the standard output
 -json Prints only JSON objects, one a line, as docs/JSON.md lists them
@@ -146,6 +151,10 @@ lines, a line is `3 of FILE`.
 The last line says how many steps the whole run took, and what is left of the budget. At most 10,000 steps
 are printed, or --steps many, or as --steps 101..200 says; with --only, those of ROUTINE only. The run still
 goes to its end.
+With --break, --when or --watch, only some steps are printed: of the first 1,000,000, or of those that --steps
+or --from names. A step is printed if one --break names its line, each --when is true after it, and it changes
+the bytes that --watch names. LINE is a number or a label as a step prints it. A condition is a register, w0
+to w7 or k0 to k3, then one of < <= = != >= >, and a number, as 48 or 0x30.
 With --count, each instruction of all routines prints a line in place of the steps: how often it ran, its
 line or pc, and the instruction. With --html, the file OUT is a page to look at in a browser: the run step by
 step, with memory. It shows 10,000 steps at most, and --steps chooses which.
@@ -154,6 +163,7 @@ Example:
   geos trace add.asm add 2 3        if add.asm has the text of `geos help`
   geos trace examples/lend.asm --file lent.vm peek @1
   geos trace examples/heap.asm main --html heap.html
+  geos trace examples/heap.asm main --watch mem:1:16
 ====
 test Runs scripts whose lines say what they are to print
 !IN A file of assembly text, at most 1,048,576 bytes, or of an image's bytes; `-` is the standard input

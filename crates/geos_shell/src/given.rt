@@ -3,7 +3,7 @@
 ghost use Rattle.std.specs.Prelude.{◌≢◌};
 ghost use Rattle.geos_shell.specs.Limits.{IsWithin};
 
-use crate::numbers::{Number, StepRange, number_in, steps_in};
+use crate::numbers::{LAST_STEP, Number, StepRange, number_in, steps_in};
 use crate::streams::is_stream;
 use clap::ArgMatches;
 use clap::parser::ValueSource;
@@ -73,12 +73,24 @@ impl<'a> Given<'_, 'a> {
         }
     }
 
-    /// The steps of a run that are named, or none.
+    /// The steps of a run that are named, or none. Those that are chosen by what they do are chosen of all, if none are named.
     pub(crate) fn steps(&self) -> StepRange {
+        let first = self.setting("from").and_then(number_in);
+        if first.is_some() || (self.chooses_steps() && !self.has("steps")) {
+            return StepRange {
+                skipped: first.unwrap_or(1).saturating_sub(1),
+                last: LAST_STEP,
+            };
+        }
         steps_in(self.word("steps")).unwrap_or(StepRange {
             skipped: 0,
             last: 0,
         })
+    }
+
+    /// Whether steps are chosen by what they do.
+    fn chooses_steps(&self) -> bool {
+        self.has("break") || self.has("when") || self.has("watch")
     }
 
     /// The number of 16 bits that is given, if there is one.

@@ -31,6 +31,7 @@ mod reported;
 mod request;
 mod rules;
 mod run_limits;
+mod step_choice;
 mod streams;
 mod wrapping;
 
@@ -54,4 +55,5 @@ pub use request::{
     RoutineRequest, TestRequest, TextRequest, TraceWords, requested,
 };
 pub use run_limits::{Room, RunLimits};
+pub use step_choice::{Chunk, Condition, Line, Register, StepChoice, Test};
 pub use streams::{STANDARD, StreamFault, print, print_lines, read, tell, tell_typist, write};

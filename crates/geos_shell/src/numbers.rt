@@ -28,7 +28,7 @@ pub(crate) const REGION: Number = Number {
 };
 
 /// The last step of a run that can be shown.
-const LAST_STEP: u32 = 1_000_000;
+pub(crate) const LAST_STEP: u32 = 1_000_000;
 
 /// Steps of a run, counted from 1.
 #[derive(Clone, Copy)]

@@ -17,6 +17,7 @@ use crate::making::New;
 use crate::numbers::{AREA, REGION, StepRange, WIDTH};
 use crate::rules::misuse_of;
 use crate::run_limits::RunLimits;
+use crate::step_choice::StepChoice;
 use crate::streams::STANDARD;
 use crate::wrapping::columns;
 use clap::ArgMatches;
@@ -40,6 +41,8 @@ pub struct TraceWords<'a> {
     pub skipped: u32,
     /// The number of the last step that is printed.
     pub steps: u32,
+    /// Which of these steps are printed, by what they do.
+    pub choice: StepChoice<'a>,
     /// Whether it is printed how often each line ran, in place of steps.
     pub count: bool,
     /// The path that a page goes to, if one is made in place of lines.
@@ -288,6 +291,7 @@ fn trace_of<'a>(alloc: Global, given: &Given<'_, 'a>) -> Result<Request<'a>, All
     let StepRange { skipped, last } = given.steps();
     let region = given.number(&REGION);
     let count = given.flag("count");
+    let choice = StepChoice::of(alloc, given)?;
     let call = CallWords {
         name: given.word("NAME"),
         words: given.words(alloc, "N")?,
@@ -299,6 +303,7 @@ fn trace_of<'a>(alloc: Global, given: &Given<'_, 'a>) -> Result<Request<'a>, All
             only,
             skipped,
             steps: last,
+            choice,
             count,
             page,
         },

@@ -3,6 +3,7 @@
 use crate::command_line::parts_of;
 use crate::given::Given;
 use crate::numbers::{number_in, steps_in};
+use crate::step_choice::{Chunk, Condition, Line};
 
 /// The rules, in the order in which they are tested. A line has the command, or `*` for any; then conditions, with blanks between them;
 /// and after `: ` what is wrong if all of them are met:
@@ -12,11 +13,24 @@ use crate::numbers::{number_in, steps_in};
 ///   name==other     the same word is given under both names
 ///   name~           what is given names no steps of a run
 ///   name?0..9/3     what is given is no multiple of 3 from 0 to 9
+///   name%           one of the words under the name has not the form of these
 ///   !name           the condition is not met
 const RULES: &str = "\
 * area?512..16777216/512: the number of '--area' is a multiple of 512 from 512 to 16777216
 * region?65536..16777216/1: the number of '--region' is from 65536 to 16777216
 * steps~: '--steps' takes N, from 0 to 1000000, or A..B, from 1 to 1000000
+* from?1..1000000/1: the number of '--from' is from 1 to 1000000
+trace from steps: only one of '--from' and '--steps' can be given
+trace break%: '--break' takes ROUTINE:LINE, with the number or the label of a line, as main:12
+trace when%: '--when' takes a register, w0 to w7 or k0 to k3, then < <= = != >= or >, and a number from 0 to 65535, as w3>48
+trace watch%: '--watch' takes H:C for a block of FILE, or mem:H:C, with numbers from 0 to 65535
+trace watch only: only one of '--only' and '--watch' can be given
+trace count break: '--break', '--when' and '--watch' can't be given with '--count' or '--html'
+trace count when: '--break', '--when' and '--watch' can't be given with '--count' or '--html'
+trace count watch: '--break', '--when' and '--watch' can't be given with '--count' or '--html'
+trace html break: '--break', '--when' and '--watch' can't be given with '--count' or '--html'
+trace html when: '--break', '--when' and '--watch' can't be given with '--count' or '--html'
+trace html watch: '--break', '--when' and '--watch' can't be given with '--count' or '--html'
 * width?60..1000/1: the number of '--width' is from 60 to 1000
 * H?0..65535/1: H is a number from 0 to 65535
 * C?0..65535/1: C is a number from 0 to 65535
@@ -91,10 +105,28 @@ fn is_outside(word: &str, limits: &str) -> bool {
     }
 }
 
+/// Whether a word has the form of those under the name.
+fn has_form(name: &str, word: &str) -> bool {
+    match name {
+        "break" => Line::of(word).is_some(),
+        "when" => Condition::of(word).is_some(),
+        _ => Chunk::of(word).is_some(),
+    }
+}
+
+/// Whether one of the words under the name has not their form.
+fn has_malformed(given: &Given<'_, '_>, name: &str) -> bool {
+    let words = given.matches.get_strs(name).unwrap_or(&[]);
+    words.iter().any(|word| !has_form(name, word))
+}
+
 /// Whether a condition of a rule is met, apart from a `!` before it.
 fn is_met(given: &Given<'_, '_>, condition: &str) -> bool {
     if let Some(name) = condition.strip_suffix("~") {
         return matches!(given.setting(name), Some(word) if steps_in(word).is_none());
+    }
+    if let Some(name) = condition.strip_suffix("%") {
+        return has_malformed(given, name);
     }
     if let Some((name, limits)) = condition.split_once('?') {
         return matches!(given.setting(name), Some(word) if is_outside(word, limits));

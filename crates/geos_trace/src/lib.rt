@@ -11,9 +11,11 @@ mod page_begin;
 mod page_panels;
 mod page_run;
 mod steps;
+mod watched;
 mod writes;
 
 pub use lines::{origin_of, put_counts, put_end, put_instruction, put_refused};
 pub use notes::{MOST_STEPS, Notes};
 pub use page::{Told, html};
-pub use steps::{put_done, put_steps};
+pub use steps::{put_done, put_step};
+pub use watched::ChunkWatch;

@@ -74,7 +74,7 @@ pub fn put_instruction(
     put_listed(out, image, pc)
 }
 
-/// Appends the place of an instruction, and the instruction.
+/// Appends the place of an instruction, its labels in its text, and the instruction.
 pub(crate) fn put_placed(
     out: &mut Vec<u8>,
     image: &Image,
@@ -85,7 +85,14 @@ pub(crate) fn put_placed(
 {
     let origin = origin_of(origins, pc);
     put_place(out, origin, pc)?;
-    put_instruction(out, image, origin, pc)
+    if let Some(origin) = origin
+        && !origin.code.is_empty()
+    {
+        out.extend_from_slice(b"   ")?;
+        origin.put_labels(out)?;
+        return put_words(out, origin.code);
+    }
+    put_listed(out, image, pc)
 }
 
 /// Appends a line for each instruction of the image: how often it ran, its place, and the instruction.

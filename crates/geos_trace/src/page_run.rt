@@ -105,9 +105,9 @@ const COMMITS = { VUPDATE: \"current area committed\", VSAVE: \"saved area commi
 const OWNERS = [\"block\", \"file block\"];
 const key_of = (owner, handle) => OWNERS[owner] + \" \" + handle;
 
-// A line of `geos trace`: the line of the text, the instruction, and what it did.
+// A line of `geos trace`: the line of the text, the instruction after its labels, and what it did.
 function traced_line(line) {
-  const [, number, code, did] = /^(\\d+)\\s+(.*?)(?:  ; (.*))?$/.exec(line);
+  const [, number, code, did] = /^(\\d+)\\s+(?:[^\\s;]+: )*(.*?)(?:  ; (.*))?$/.exec(line);
   return { number, code, did: did || \"\" };
 }
 

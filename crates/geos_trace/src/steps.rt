@@ -24,7 +24,7 @@ pub fn put_done(out: &mut Vec<u8>, instr: &Instr, noted: &Noted) -> Result<(), A
 }
 
 /// Appends the line of a step: the place of the instruction, the instruction, and after a `;` what it changed, if it changed something.
-fn put_step(
+pub fn put_step(
     out: &mut Vec<u8>,
     image: &Image,
     origins: Option<&[Origin<'_>]>,
@@ -42,17 +42,4 @@ fn put_step(
         out.truncate(before);
     }
     out.extend_from_slice(b"\n")
-}
-
-/// Appends a line for each step.
-pub fn put_steps(
-    out: &mut Vec<u8>,
-    image: &Image,
-    origins: Option<&[Origin<'_>]>,
-    steps: &[Noted],
-) -> Result<(), AllocError> {
-    for noted in steps {
-        put_step(out, image, origins, noted)?;
-    }
-    Ok(())
 }
