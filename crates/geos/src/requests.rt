@@ -421,7 +421,7 @@ fn work_on_file(
         FileRequest::New { file, area } => done(rt, reports, make_file(rt, file, area)),
         FileRequest::Copy(copy) => done(rt, reports, copy_file(rt, &copy)),
         FileRequest::Put(request) => done(rt, reports, put(rt, &request)),
-        FileRequest::Get { chunk, region } => done(rt, reports, get(rt, &chunk, region)),
+        FileRequest::Get(request) => done(rt, reports, get(rt, &request, reports.json)),
         FileRequest::Dump(dump) => {
             let view = view_of(&dump, reports.json);
             done(rt, reports, print_file(rt, dump.file, view))

@@ -1,5 +1,6 @@
 //! Why something was not run.
 
+use crate::row_reader::RowFault;
 use geos_cli::ScriptFault;
 use geos_files::FileFault;
 use geos_shell::{Diagnosed, Named, StreamFault};
@@ -28,6 +29,21 @@ pub enum RunFault<'a> {
     /// A call of the kernel on a chunk was refused, or a block that a routine borrows.
     #[error("refused {0}")]
     NotDone(u16),
+    /// The chunk, or the item, of this block is no array.
+    #[error("no array: chunk {1} of {0}")]
+    NoArray(u16, u16),
+    /// The elements of an array have so many bytes, and the requested fields have so many.
+    #[error("elements of {0} bytes, and the fields have {1}")]
+    OtherSize(usize, usize),
+    /// The sizes of elements of an array vary, and fields are requested.
+    #[error("elements of varying sizes: omit '--fields'")]
+    Varying,
+    /// A row of the file with the path is wrong.
+    #[error("{}:{}: {}", Named(.0), .1, .2)]
+    BadRow(&'a str, usize, RowFault),
+    /// The file with the path has too many rows.
+    #[error("{}: more than 1048576 bytes", Named(.0))]
+    LongRows(&'a str),
     /// No public routine has the name that a call gives.
     #[error("bad call: no public routine {}", Named(.0))]
     NoRoutine(&'a str),

@@ -36,7 +36,7 @@ abbrev pub WorksWithinLimits : FileRequest → Type 0
 WorksWithinLimits (New file area) = IsArea area
 WorksWithinLimits (Copy copy) = IfSome copy.area IsArea
 WorksWithinLimits (Put put) = IsRegion put.region
-WorksWithinLimits (Get chunk region) = IsRegion region
+WorksWithinLimits (Get get) = IsRegion get.region
 WorksWithinLimits (Dump dump) = Unit {0}
 WorksWithinLimits (Diff files) = Unit {0}
 WorksWithinLimits (Map file width) = IsWidth width

@@ -369,6 +369,8 @@ put Writes the standard input into a chunk of a VM file
 ?C The handle of the chunk, or with --item of the item
 ?AT The offset from which bytes are overwritten; without it, all bytes are replaced
 -item H is a group, and C an item of it
+:array=IN A file of rows, at most 1,048,576 bytes, that become the elements of an array; `-` is the standard input
+:fields=FIELDS What an element of the array has, as 2,2,8t; without it, any bytes
 :new-block=UID Makes a block with this user ID, and a chunk in it
 -new-group Makes a group, and an item in it
 :new-chunk=H Makes a chunk in the block H
@@ -382,6 +384,10 @@ With --new-block, a block with the user ID UID and a chunk in it are made for th
 group and an item in it are made. With --new-chunk, only a chunk in the block H is made. With --new-item, only
 an item in the group G is made.
 H and C are printed then, as `geos get` takes them. All is one commit.
+With --array, the chunk has to be an array. Each row of IN becomes an element, in place of all elements: with
+--fields, a number for each 1 or 2, the bytes of the number, and a text for 8t, of at most 8 bytes. Without
+--fields, a row is the bytes of an element in hexadecimal. docs/CSV.md describes the rows. If a row is wrong,
+the fault is `IN:ROW: ..`, and the file is unchanged.
 `refused N` is a refusal, as in docs/INSTRUCTIONS.md: 1 no such block, 2 no such chunk, 4 no room in the
 region, 6 too long, 11 the disk fails, 15 a group without --item. Then the file is unchanged; only after 11
 it may have the new bytes.
@@ -390,16 +396,22 @@ Example:
   geos put notes.vm --new-block 7 < notes.txt       prints 1 16, if the file has no block
   geos put notes.vm 1 16 < notes.txt
   geos get notes.vm 1 16
+  geos get notes.vm 2 16 --array --fields 2,8t >rows.csv
+  geos put notes.vm 2 16 --array rows.csv --fields 2,8t
 ====
 get Prints the bytes of a chunk of a VM file
 !FILE A VM file, as `new` makes it
 !H The handle of the block, or with --item of the group
 !C The handle of the chunk, or with --item of the item
 -item H is a group, and C an item of it
+-array Prints the elements of an array as rows
+:fields=FIELDS What an element of the array has, as 2,2,8t; without it, any bytes
+-json Prints only JSON objects, one a line, as docs/JSON.md lists them; requires --array
 #region=1048576 How many bytes of memory the blocks have, 65536 to 16777216
 
 With --item, H is a group and C an item of it. The bytes are those of the current directory. Nothing is
-written. `refused N` means the same as for `put`.
+written. `refused N` means the same as for `put`. With --array, each element of the array in the chunk prints
+a row, as docs/CSV.md describes: with --fields its numbers and texts, without it its bytes in hexadecimal.
 ====
 dump Prints the blocks of a VM file, and their chunks
 !FILE A VM file, as `new` makes it

@@ -52,7 +52,10 @@ fn are_in_stream(rt: &HostRuntime, request: &Request<'_>) -> bool {
         Request::Routines(RoutineRequest::Call { call, .. }) => {
             call.is_none() && are_in_read(rt, STANDARD)
         }
-        Request::File(FileRequest::Put(_)) => are_in_read(rt, STANDARD),
+        Request::File(FileRequest::Put(put)) => match put.array {
+            Some(rows) => are_in_read(rt, rows.path),
+            None => are_in_read(rt, STANDARD),
+        },
         Request::Text(TextRequest::Budget(made) | TextRequest::Format(made)) => {
             are_in_kept(rt, made.new)
         }

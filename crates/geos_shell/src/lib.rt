@@ -29,6 +29,7 @@ mod reason;
 mod replace;
 mod reported;
 mod request;
+mod row_fields;
 mod rules;
 mod run_limits;
 mod step_choice;
@@ -51,9 +52,10 @@ pub use printable::Named;
 pub use reason::Reason;
 pub use reported::{Diagnosed, Reported, done_or_reported, report};
 pub use request::{
-    Asked, CallWords, ChunkPath, FileRequest, NewText, PagePaths, PutRequest, Reports, Request,
-    RoutineRequest, TestRequest, TextRequest, TraceWords, requested,
+    Asked, CallWords, ChunkPath, FileRequest, GetRequest, NewText, PagePaths, PutRequest, Reports,
+    Request, RoutineRequest, Rows, TestRequest, TextRequest, TraceWords, requested,
 };
+pub use row_fields::{Field, field_of};
 pub use run_limits::{Room, RunLimits};
 pub use step_choice::{Chunk, Condition, Line, Register, StepChoice, Test};
 pub use streams::{STANDARD, StreamFault, print, print_lines, read, tell, tell_typist, write};

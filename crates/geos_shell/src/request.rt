@@ -61,7 +61,16 @@ pub struct ChunkPath<'a> {
     pub item: bool,
 }
 
-/// To write the standard input into a chunk of a VM file, and to update that.
+/// Rows of fields.
+#[derive(Clone, Copy)]
+pub struct Rows<'a> {
+    /// The path that they are read of; empty if they are printed.
+    pub path: &'a str,
+    /// The fields of each; without them, a row has any bytes.
+    pub fields: Option<&'a str>,
+}
+
+/// To write bytes into a chunk of a VM file, and to update that.
 #[derive(Clone, Copy)]
 pub struct PutRequest<'a> {
     /// The chunk, of which only the file is known if it is made.
@@ -70,6 +79,18 @@ pub struct PutRequest<'a> {
     pub at: Option<u16>,
     /// What is made.
     pub new: Option<New>,
+    /// The rows that become the elements of the chunk, an array, in place of bytes.
+    pub array: Option<Rows<'a>>,
+    /// How many bytes blocks in memory have.
+    pub region: u32,
+}
+
+/// To print the bytes of a chunk of a VM file.
+#[derive(Clone, Copy)]
+pub struct GetRequest<'a> {
+    pub chunk: ChunkPath<'a>,
+    /// The rows that the elements of the chunk, an array, are printed as, in place of its bytes.
+    pub array: Option<Rows<'a>>,
     /// How many bytes blocks in memory have.
     pub region: u32,
 }
@@ -180,10 +201,10 @@ pub enum FileRequest<'a> {
     New { file: &'a str, area: u32 },
     /// To copy a VM file.
     Copy(CopyRequest<'a>),
-    /// To write the standard input into a chunk of a VM file, and to update that.
+    /// To write bytes into a chunk of a VM file, and to update that.
     Put(PutRequest<'a>),
     /// To print the bytes of a chunk.
-    Get { chunk: ChunkPath<'a>, region: u32 },
+    Get(GetRequest<'a>),
     /// To print a VM file.
     Dump(DumpRequest<'a>),
     /// To print what differs between two VM files.
@@ -384,6 +405,14 @@ fn chunk_of<'a>(given: &Given<'_, 'a>) -> ChunkPath<'a> {
     }
 }
 
+/// Rows with the requested fields.
+fn rows_of<'a>(given: &Given<'_, 'a>, path: &'a str) -> Rows<'a> {
+    Rows {
+        path,
+        fields: given.setting("fields"),
+    }
+}
+
 /// The request of a `put`.
 fn put_of<'a>(given: &Given<'_, 'a>) -> Request<'a>
     ensures { KeepsLimits result }
@@ -392,6 +421,10 @@ fn put_of<'a>(given: &Given<'_, 'a>) -> Request<'a>
         chunk: chunk_of(given),
         at: given.short_if_any("AT"),
         new: New::of(given),
+        array: match given.setting("array") {
+            Some(path) => Some(rows_of(given, path)),
+            None => None,
+        },
         region: given.number(&REGION),
     }))
 }
@@ -400,10 +433,15 @@ fn put_of<'a>(given: &Given<'_, 'a>) -> Request<'a>
 fn get_of<'a>(given: &Given<'_, 'a>) -> Request<'a>
     ensures { KeepsLimits result }
 {
-    Request::File(FileRequest::Get {
+    Request::File(FileRequest::Get(GetRequest {
         chunk: chunk_of(given),
+        array: if given.flag("array") {
+            Some(rows_of(given, ""))
+        } else {
+            None
+        },
         region: given.number(&REGION),
-    })
+    }))
 }
 
 /// The columns of a drawing: those of the terminal, unless a number is given or they are no width.

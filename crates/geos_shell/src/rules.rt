@@ -3,6 +3,7 @@
 use crate::command_line::parts_of;
 use crate::given::Given;
 use crate::numbers::{number_in, steps_in};
+use crate::row_fields::are_fields;
 use crate::step_choice::{Chunk, Condition, Line};
 
 /// The rules, in the order in which they are tested. A line has the command, or `*` for any; then conditions, with blanks between them;
@@ -31,6 +32,14 @@ trace count watch: '--break', '--when' and '--watch' can't be given with '--coun
 trace html break: '--break', '--when' and '--watch' can't be given with '--count' or '--html'
 trace html when: '--break', '--when' and '--watch' can't be given with '--count' or '--html'
 trace html watch: '--break', '--when' and '--watch' can't be given with '--count' or '--html'
+* fields%: '--fields' takes 1, 2 and Nt, with N from 1 to 65527, and a comma between them, as 2,2,8t
+* fields !array: '--fields' requires '--array'
+put array AT: '--array' replaces all elements, so AT can't be given
+put array new-block: '--array' requires H and C
+put array new-group: '--array' requires H and C
+put array new-chunk: '--array' requires H and C
+put array new-item: '--array' requires H and C
+get json !array: '--json' requires '--array'
 * width?60..1000/1: the number of '--width' is from 60 to 1000
 * H?0..65535/1: H is a number from 0 to 65535
 * C?0..65535/1: C is a number from 0 to 65535
@@ -110,7 +119,8 @@ fn has_form(name: &str, word: &str) -> bool {
     match name {
         "break" => Line::of(word).is_some(),
         "when" => Condition::of(word).is_some(),
-        _ => Chunk::of(word).is_some(),
+        "watch" => Chunk::of(word).is_some(),
+        _ => are_fields(word),
     }
 }
 
