@@ -258,6 +258,7 @@ def try_files(folder, kept):
         tries = [(["dump", path], "read"), (["map", path], "read"), (["run", "image", path, "script"], "read")]
         tries += [(["copy", path, "new.vm"], "read"), (["diff", path, "file.vm"], "read"), (["diff", "file.vm", path], "read")]
         tries += [(["dump", path, "1", "16"], "read"), (["get", path, "1", "16"], "read"), (["put", path, "1", "16"], "read")]
+        tries += [(["get", path, "1", "16", "--array"], "read"), (["put", path, "1", "16", "--array", "-"], "read")]
         tries += [(["put", path, "--new-group"], "read"), (["test", "image", "test.script", "--file", path], "read")]
         tries += [([command, "image", "get", "--file", path], "read") for command in ("call", "trace")]
         if path in there:

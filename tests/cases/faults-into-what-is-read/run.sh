@@ -43,6 +43,7 @@ silent /dev/null book.vm diff missing book.vm
 silent /dev/null book.vm map book.vm
 silent /dev/null book.vm get book.vm 9 16
 silent text book.vm put book.vm 9 16
+silent /dev/null wrong put book.vm 9 16 --array wrong
 silent /dev/null wrong asm wrong image
 silent wrong wrong asm - image
 silent /dev/null book.vm asm wrong book.vm

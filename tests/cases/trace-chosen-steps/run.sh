@@ -47,4 +47,4 @@ for words in '--break squares' '--break :7' '--break squares:' '--when w8=1' '--
     "$program" trace "$text" squares 3 $words 2>&1 | head -n 1
 done
 trace "$text" squares 3 --when w9=1 | tail -n 1
-ls page.html 2>/dev/null
+[ ! -e page.html ] || echo "there is a page"
