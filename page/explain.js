@@ -3,6 +3,7 @@
 const explained = new Explained($("text").textContent, lines_of($("data").textContent).map((line) => JSON.parse(line)));
 const is_listing = explained.page.shows === "listing";
 const place_word = is_listing ? "pc" : "line";
+const program = program_of(explained);
 
 // A text in which places of other lines are links.
 function linked(text) {
@@ -68,7 +69,8 @@ function routine_part(routine, labels) {
     ...(effects === undefined ? [] : effects.split(",").map((effect) => tag(effect === "none" ? "no effects" : effect, "effect")))];
   const heading = routine.name ? node("h2", {}, shown(routine.name), ...tags) : null;
   const lines = node("ol", { class: "lines", "aria-label": "Lines, with what is known before each instruction, and the steps that are left" }, ...routine.lines.flatMap(line_items));
-  return node("section", { class: "routine", "data-routine": routine.name }, heading, node("div", { class: "pair" }, lines, graph_part(routine, labels)));
+  const play = program && play_part(program, routine);
+  return node("section", { class: "routine", "data-routine": routine.name }, heading, play, node("div", { class: "pair" }, lines, graph_part(routine, labels)));
 }
 
 const counted = (n, word) => `${n} ${word}${n === 1 ? "" : "s"}`;
@@ -116,7 +118,7 @@ function show_page() {
   show_verdict();
   list_findings();
   document.addEventListener("keydown", (event) => {
-    if (event.ctrlKey || event.altKey || event.metaKey) return;
+    if (event.ctrlKey || event.altKey || event.metaKey || event.target instanceof HTMLInputElement) return;
     if (event.key === "n" || event.key === "p") go_along(event.key === "n");
   });
   // The lines are new, so the browser looks for the place in the address again.

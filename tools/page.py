@@ -41,7 +41,8 @@ class Page:
 
 
 RUN = Page("run", ("shared.js", "listing.js", "bytes.js", "run.js", "region.js", "panels.js", "player.js"))
-EXPLAINED = Page("explain", ("shared.js", "listing.js", "findings.js", "graph.js", "explain.js"))
+MODEL = ("heap.js", "arrays.js", "places.js", "kernel.js", "model.js", "machine.js")
+EXPLAINED = Page("explain", ("shared.js", "listing.js", "bytes.js", "findings.js", "graph.js", *MODEL, "scene.js", "telling.js", "play.js", "explain.js"))
 MAP = Page("map", ("shared.js", "bytes.js", "map.js"))
 PLACES = ("<!-- text -->\n", "<!-- data -->\n")
 

@@ -2,6 +2,8 @@
 
     python3 in_browser.py walk PAGE [WIDTH]                        what walk.js finds in the page of a run
     python3 in_browser.py explained PAGE [WIDTH]                   what explained.js finds
+    python3 in_browser.py played PAGE [WIDTH]                      what played.js finds
+    python3 in_browser.py compare PAGE [WIDTH]                     what compare.js finds in a page of compare_model.py
     python3 in_browser.py mapped PAGE [WIDTH]                      what mapped.js finds
     python3 in_browser.py laboratory PAGE [WIDTH]                  what laboratory.js finds
     python3 in_browser.py picture PAGE FILE WIDTH HEIGHT [PLACE]   a screenshot, at a place as step=5

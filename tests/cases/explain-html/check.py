@@ -9,7 +9,7 @@ sys.path.insert(0, str(TOP / "tests" / "page"))
 import pages
 
 # The most bytes of a page beside its data.
-MOST = 60_000
+MOST = 130_000
 
 
 def explain(*words: str) -> subprocess.CompletedProcess:

@@ -1,0 +1,247 @@
+// A play of a refused routine: its steps in the model, up to the fault.
+
+const IS_PICTURE = "This is a picture that the script of this page draws, and not the machine: geos never runs a text that the verifier refuses.";
+const HUES = 6;
+
+/** @returns {Program | null} the program that a page shows, if the model can play it */
+function program_of({ page, routines }) {
+  if (page.shows === "faulty") return null;
+  const lines = routines.flatMap((routine) => routine.lines).filter((line) => line.op);
+  const is_known = lines.every(({ op, words }) => INSTRUCTIONS[op]?.[0].split(" ").filter((letter) => letter).length === words.length - 1);
+  return is_known && lines.length ? new Program(routines) : null;
+}
+
+/** Removes the mark of the next line. */
+const unmark_line = () => document.querySelectorAll(".lines .next").forEach((line) => line.classList.remove("next"));
+const changed_if = (is_changed, text) => node("span", { class: is_changed ? "changed" : false }, text);
+
+// The play of one routine, in a panel above its lines.
+class Play {
+  /**
+   * @param {Program} program
+   * @param {number} number the number of the routine
+   */
+  constructor(program, number) {
+    [this.program, this.number, this.place] = [program, number, 0];
+    this.given = given_for(program, number);
+    this.make_panel();
+    this.begin(this.given);
+  }
+
+  make_panel() {
+    const name = this.program.routines[this.number].name;
+    this.input = node("input", { type: "text", id: `call-${name}`, "aria-label": "Words and lent blocks", value: typed_of(this.given), autocomplete: "off", spellcheck: "false", size: 24 });
+    this.wrong = node("span", { class: "wrong", role: "alert" });
+    const form = node("form", { class: "call" }, node("label", { for: this.input.id }, `Words w0 to w7, then @ and the handle of each lent block: `),
+      this.input, " ", node("button", {}, "Play"), " ", this.wrong);
+    form.addEventListener("submit", (event) => {
+      event.preventDefault();
+      this.read();
+    });
+    this.said = node("p", { class: "place", role: "status" });
+    this.body = node("div", { class: "picture" });
+    this.panel = node("section", { class: "play", "aria-label": `A play of ${name}` }, node("p", { class: "note" }, IS_PICTURE),
+      form, node("p", { class: "quiet" }, this.made_words()), this.buttons(), this.said, this.body);
+    this.panel.addEventListener("keydown", (event) => this.press(event));
+  }
+
+  /** What the model makes before the routine begins. */
+  made_words() {
+    const { slots } = this.program.routines[this.number].entry;
+    if (!slots.size) return "Memory is empty at first, and the VM file is new.";
+    return "The block of each slot has three chunks: 16 with letters, 18 with an array of two elements of 4 bytes, and 20 with `ABCDEF`.";
+  }
+
+  buttons() {
+    const button = (text, label, go) => {
+      const made = node("button", { type: "button", "aria-label": label }, text);
+      made.addEventListener("click", go);
+      return made;
+    };
+    this.on = button("Next \u203a", "Next step", () => this.go(this.place + 1));
+    return node("p", { class: "steps-of-play" },
+      button("\u00ab Begin", "To the begin", () => this.go(0)), " ", button("\u2039 Back", "Step back", () => this.go(this.place - 1)), " ",
+      this.on, " ", button("End \u00bb", "To the end", () => this.go(this.last)), " ", node("span", { class: "quiet" }, "Keys: arrows, Home, End"));
+  }
+
+  press(event) {
+    const places = { ArrowRight: this.place + 1, ArrowLeft: this.place - 1, Home: 0, End: this.last };
+    if (event.target === this.input || event.ctrlKey || event.altKey || event.metaKey || !(event.key in places)) return;
+    event.preventDefault();
+    this.go(places[event.key]);
+  }
+
+  read() {
+    try {
+      this.wrong.textContent = "";
+      this.begin(given_of(this.input.value, this.program.routines[this.number].entry));
+    } catch (why) {
+      if (!(why instanceof Wrong)) throw why;
+      this.wrong.textContent = why.said;
+    }
+  }
+
+  /** @param {Given} given */
+  begin(given) {
+    this.given = given;
+    const machine = this.machine_at(MOST_PLAYED);
+    [this.last, this.end] = [machine.steps, machine];
+    this.go(this.last);
+  }
+
+  /** @returns {Machine} the machine after some steps */
+  machine_at(place) {
+    const machine = machine_of(this.program, this.number, this.given);
+    while (machine.steps < place && machine.step());
+    return machine;
+  }
+
+  go(place) {
+    this.place = Math.max(0, Math.min(this.last, place));
+    const before = this.machine_at(this.place - 1);
+    const now = this.place === this.last ? this.end : this.machine_at(this.place);
+    this.show_place(before, now);
+    const is_fault = this.place === this.last && now.fault;
+    this.body.replaceChildren(...[is_fault && this.fault_part(now), this.registers(before, now), ...this.blocks(before, now)].filter((part) => part));
+    this.mark_line(now);
+  }
+
+  /** Marks the line of the next instruction among the lines of the text. */
+  mark_line(machine) {
+    unmark_line();
+    if (machine.next && !machine.has_returned) document.getElementById(machine.next.line.id)?.classList.add("next");
+  }
+
+  show_place(before, now) {
+    const done = this.place ? before.next : null;
+    const did = done ? `${with_capital(line_words(done))}: ${step_words(before, now).join("; ") || "no change"}.` : "Before the first step.";
+    const next = now.is_over ? this.end_words(now) : this.place === MOST_PLAYED ? "The play ends here." : `Next: ${line_words(now.next)}.`;
+    this.said.replaceChildren(node("b", {}, `Step ${this.place} of ${this.last}. `), did, " ", node("span", { class: now.fault ? "bad" : "quiet" }, next));
+  }
+
+  end_words(machine) {
+    if (machine.has_returned) return "The routine returns, without a fault. The verifier looks at all paths and all words: try other words.";
+    const { next, fault: { rule, said } } = machine;
+    return `A fault by ${rule}${next && rule !== "V1" ? ` at ${line_words(next)}` : ""}: ${said}.`;
+  }
+
+  fault_part(machine) {
+    const found = through(machine);
+    const target = found && machine.targets[found.pointer];
+    if (!found) return node("div", { class: "fault" }, node("p", {}, this.end_words(machine)));
+    const since = [this.set_words(target, found), target.stale && this.since_words(found.pointer, target.stale)].filter((said) => said);
+    return node("div", { class: "fault" }, node("p", {}, this.end_words(machine)), node("p", { class: "since" }, since.join(" ")),
+      target.stale && this.compared(found), this.effect(machine, found));
+  }
+
+  since_words(pointer, { step, pc }) {
+    return `p${pointer} is stale since step ${step}: ${line_words(this.program.code[pc])}.`;
+  }
+
+  /** When a pointer was set, and where its bytes were then and are now. */
+  set_words({ set, at, len }, { pointer, begin }) {
+    const when = set ? `in step ${set}` : "before the first step";
+    const now = begin === null ? "which are gone" : begin === at ? "which are still there" : `which are at ${begin} now`;
+    return `p${pointer} was set ${when} to ${count_bytes(len)} at ${at}, ${now}.`;
+  }
+
+  /** What the pointer was set to, beside what lies at its place now. */
+  compared({ pointer, at, found, lies, meant, meant_at, meant_bytes }) {
+    const row = (name, meant_cell, found_cell) => node("tr", {}, node("th", { scope: "row" }, name), node("td", {}, meant_cell), node("td", {}, found_cell));
+    const is_there = meant_at !== null;
+    return node("table", { class: "compared" },
+      node("thead", {}, node("tr", {}, node("th", {}, ""), node("th", { scope: "col" }, `p${pointer} was set to`), node("th", { scope: "col" }, "what is there now"))),
+      node("tbody", {}, row("what", meant, lies), row("place in the region", is_there ? String(meant_at) : "gone", String(at)),
+        row("bytes", is_there ? hex_bytes(meant_bytes) : "none", hex_bytes(found))));
+  }
+
+  /** What the instruction would do. */
+  effect(machine, { at, count, writes, lies, meant_at }) {
+    const { op } = machine.next;
+    const luck = machine.fault.rule === "V4" && at === meant_at ? " These are the right bytes, by luck." : "";
+    return node("p", { class: "effect" }, `${op} would ${writes ? "overwrite" : "read"} ${count_bytes(count)} at ${at}: ${lies}.${luck}`);
+  }
+
+  registers(before, now) {
+    const is_first = this.place === 0;
+    const words = now.words.map((word, n) => node("span", {}, `w${n} `, changed_if(!is_first && word !== before.words[n], String(word))));
+    const counters = now.counters.map((left, n) => left || before.counters[n] ? node("span", {}, `k${n} `, changed_if(!is_first && left !== before.counters[n], String(left))) : null);
+    const slots = now.held.map((held, n) => held && node("span", {}, `s${n} ${block_words(now.names[n])}`));
+    return node("div", { class: "registers" }, ...words, ...counters, ...slots, ...now.targets.map((target, n) => target && this.pointer(now, n, target)));
+  }
+
+  pointer(machine, n, target) {
+    const said = `p${n} ${meant_words(target)}, at ${machine.spans[n].at}`;
+    return node("span", { class: target.stale ? "pointer stale" : "pointer" }, target.stale ? `${said}, stale` : said);
+  }
+
+  /** The blocks of slots and of pointers. */
+  blocks(before, now) {
+    const keys = new Set([...now.names.filter((_, n) => now.held[n]).map(key_of), ...now.targets.filter((target) => target).map(({ name }) => key_of(name))]);
+    return now.kernel.blocks.in_order().filter(({ key }) => keys.has(key)).map((entry) => this.block(before, now, entry));
+  }
+
+  block(before, now, { key, name, place, size }) {
+    const heap = now.kernel.blocks.heap(name);
+    const old = before.kernel.blocks.entries.get(key);
+    const old_bytes = old && before.kernel.blocks.region.subarray(old.place, old.place + old.size);
+    const chunk_at = new Map(heap.chunks().flatMap(({ chunk, at, len }) => Array.from({ length: len }, (_, n) => [at + n, chunk])));
+    const marks = this.marks(now, place);
+    const kind_of = (i) => [
+      chunk_at.has(i) && `hue${(chunk_at.get(i) - TABLE) / 2 % HUES}`, this.place && old_bytes && old_bytes[i] !== heap.bytes[i] && "changed", marks.get(i),
+    ].filter((kind) => kind).join(" ") || false;
+    const bytes = [...heap.bytes.subarray(0, MOST_DRAWN)];
+    return node("div", { class: "block" }, node("h3", {}, `${block_words(name)}: ${size} bytes at ${place} of the region`),
+      node("table", { class: "bytes" }, node("tbody", {}, ...byte_rows(bytes, kind_of))), this.key_of_chunks(heap));
+  }
+
+  key_of_chunks(heap) {
+    const chunks = heap.chunks().map(({ chunk, at, len }) => node("span", { class: `hue${(chunk - TABLE) / 2 % HUES}` }, `chunk ${chunk}: ${count_bytes(len)}${len ? ` at ${at}` : ""}`));
+    return node("p", { class: "chunks" }, ...chunks.flatMap((one) => [one, " "]));
+  }
+
+  /** Marks of bytes of a block: those that a stale pointer leads to, and those that it was meant for. */
+  marks(machine, place) {
+    const marks = new Map();
+    machine.targets.forEach((target, n) => {
+      if (!target) return;
+      const put = (at, kind) => Array.from({ length: target.len }, (_, k) => marks.set(at - place + k, kind));
+      const now = target.stale ? place_now(machine.kernel, target) : null;
+      if (now !== null) put(now, "meant");
+      put(machine.spans[n].at, target.stale ? "led" : "good");
+    });
+    return marks;
+  }
+}
+
+/** @returns {Play | null} the play of a routine, if the model has room for what its entry row requires */
+function play_of(program, number) {
+  try {
+    return new Play(program, number);
+  } catch (why) {
+    if (why instanceof Refusal) return null;
+    throw why;
+  }
+}
+
+/** The button of a refused routine, and the panel that it opens. */
+function play_part(program, routine) {
+  const number = program.number_of(routine.name);
+  const is_refused = routine.lines.some((line) => line.findings.some(({ kind }) => kind === "error"));
+  if (number < 0 || !is_refused) return null;
+  const button = node("button", { type: "button", class: "play-button", "aria-expanded": "false" }, "Play this routine in a model");
+  const part = node("div", { class: "play-part" }, button);
+  button.addEventListener("click", () => {
+    const is_open = button.getAttribute("aria-expanded") === "true";
+    button.setAttribute("aria-expanded", String(!is_open));
+    if (is_open) {
+      part.lastChild.remove();
+      unmark_line();
+      return;
+    }
+    const play = play_of(program, number);
+    part.append(play ? play.panel : node("p", { class: "quiet" }, "The model has no room for the blocks of the entry row."));
+    play?.on.focus();
+  });
+  return part;
+}
