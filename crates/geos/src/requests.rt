@@ -10,7 +10,8 @@ use geos_files::{
     check_file, compare_files, copy_file, draw_file, is_vm_file, make_file, make_page, print_file,
 };
 use geos_runs::{
-    Manner, RunFault, Shown, Traceable, call as run_call, get, put, run, session, test, trace,
+    Manner, RunFault, Shown, Testable, Traceable, call as run_call, get, put, run, session, test,
+    trace,
 };
 use geos_scripts::NameUse;
 use geos_shell::{
@@ -360,7 +361,12 @@ fn run_tests(rt: &HostRuntime, reports: Reports, request: TestRequest<'_>) -> Re
     requires { IsRegion request.region }
 {
     let routines = runnable(rt, reports, request.image)?;
-    let tested = test(rt, &routines.image, &request);
+    let testable = Testable {
+        image: &routines.image,
+        text: routines.written(),
+        lines: routines.lines(),
+    };
+    let tested = test(rt, &testable, &request);
     if ran(rt, reports, tested, &routines)? {
         Ok(())
     } else {

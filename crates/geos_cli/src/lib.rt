@@ -11,7 +11,7 @@
 //! | `bytes` | `put_bytes`, `get_bytes`: write and read a chunk or an item |
 //! | `progress` | `Progress`: the commands of a script, one after another, printed in a form |
 //! | `in_form` | `run_script_in_form`, `run_call_in_form`: the same, printed in a form |
-//! | `traced` | `trace_call`, `trace_call_watched`: one call, of whose steps notes are taken |
+//! | `traced` | `trace_call`, `trace_call_watched`, `trace_lent`: one call, of whose steps notes are taken |
 //! | `with_names` | `run_script_with_names`: carries out a script whose lines write names |
 #![tactic(auto)]
 
@@ -33,7 +33,9 @@ pub use crate::law::{other_calls_keep, plain_scripts_do_the_same};
 pub use crate::progress::Progress;
 pub use crate::script::{Mode, RefusedCommand, run_script, run_script_in_mode};
 pub use crate::session::run_session;
-pub use crate::traced::{NotedCall, TraceFault, TracedCall, trace_call, trace_call_watched};
+pub use crate::traced::{
+    NotedCall, TraceFault, TracedCall, trace_call, trace_call_watched, trace_lent,
+};
 pub use crate::with_names::{EarlyEnd, run_script_with_names};
 pub use geos_input::{Counted, MOST_BYTES, ScriptFault};
 pub use geos_machine::{Follow, Unwatched, Watch};

@@ -112,8 +112,9 @@ fn trace<D: Device + Drop, W: Watch>(
     Machine::new().trace_watched(&call, kernel, notes, watcher)
 }
 
-/// Does as `run_lent`, and notes the steps of the routine.
-fn trace_lent<D: Device + Drop, W: Watch>(
+/// Runs the routine of a call of a script as the script would, and notes its steps. If a block that the call lends can't be locked, it returns
+/// that refusal. It prints nothing.
+pub fn trace_lent<D: Device + Drop, W: Watch>(
     checked: &Checked,
     call: &Call,
     kernel: &mut Kernel<D>,

@@ -7,6 +7,7 @@ mod calling;
 mod choosing;
 mod chunks;
 mod elements;
+mod coverage;
 mod ending;
 mod fault;
 mod making;
@@ -28,7 +29,7 @@ pub use manner::Manner;
 pub use paging::Shown;
 pub use row_reader::RowFault;
 pub use running::{run, session};
-pub use testing::test;
+pub use testing::{Testable, test};
 pub use tracing::{Traceable, trace};
 
 /// The most bytes that are read of a script: one more than a script may have.

@@ -4,17 +4,30 @@ ghost use Rattle.vm_blocks.specs.Listed.{NoneLocked};
 ghost use Rattle.geos_shell.specs.Limits.{IsRegion};
 
 use crate::MOST_READ;
+use crate::coverage::coverage_text;
 use crate::fault::RunFault;
 use geos_cli::ScriptFault;
 use geos_files::{FileFault, Locked, lock_to_read, opened};
 use geos_kernel::{Kernel, kernel_in_memory};
+use geos_scripts::NameUse;
 use geos_shell::{
     Named, Reason, StreamFault, TestRequest, are_one_file_read, print, print_lines, read, write,
 };
-use script_tests::{Tested, test_script};
+use script_tests::{Coverage, TestScript, Tested, test_script};
 use sentence_text::Text;
 use std::alloc::Global;
 use vm_file::{Device, Disk, MemoryDevice, OpenError, VmFile};
+
+/// What is tested: an image, and the text or the source that it was made of.
+#[derive(Clone, Copy)]
+pub struct Testable<'t> {
+    /// The bytes of the image.
+    pub image: &'t [u8],
+    /// The text or the source; empty without one.
+    pub text: &'t [u8],
+    /// For each pc the number of its line in the text, if there is one.
+    pub lines: Option<&'t [u32]>,
+}
 
 /// The bytes of a script or a VM file.
 #[derive(Drop)]
@@ -63,34 +76,53 @@ impl<'a> Contents<'a> {
     }
 }
 
+/// A script that is tested, and what it is for.
+#[derive(Drop)]
+struct Subject<'t, 'a> {
+    /// The bytes of the image that it is for.
+    image: &'t [u8],
+    script: Contents<'a>,
+    /// How often instructions ran in the scripts before it.
+    coverage: Coverage,
+}
+
 /// Runs a test script on a kernel of whose VM file no block is locked.
 fn test_on<'a, D: Device + Drop>(
     rt: &HostRuntime,
-    image: &[u8],
-    script: &Contents<'a>,
+    test: Subject<'_, 'a>,
     kernel: &mut Kernel<D>,
 ) -> Result<Tested, RunFault<'a>>
     requires { NoneLocked kernel.old.core.blocks }
 {
+    let Subject {
+        image,
+        script,
+        coverage,
+    } = test;
     let alloc = rt.alloc();
     let path = Named(script.path);
-    match format!(in alloc; "{path}") {
-        Ok(path) => Ok(test_script(alloc, &path, image, &script.bytes, kernel)?),
-        Err(_) => Err(RunFault::Session(ScriptFault::Memory)),
-    }
+    let Ok(path) = format!(in alloc; "{path}") else {
+        return Err(RunFault::Session(ScriptFault::Memory));
+    };
+    let script = TestScript {
+        path: &path,
+        image,
+        bytes: &script.bytes,
+        names: NameUse::Allowed,
+    };
+    Ok(test_script(alloc, &script, coverage, kernel)?)
 }
 
 /// Runs it on a new VM file in memory, with so many bytes for blocks in memory.
 fn test_in_memory<'a>(
     rt: &HostRuntime,
-    image: &[u8],
-    script: &Contents<'a>,
+    test: Subject<'_, 'a>,
     region: u32,
 ) -> Result<Tested, RunFault<'a>>
     requires { IsRegion region }
 {
     match kernel_in_memory(rt.alloc(), region) {
-        Ok(mut kernel) => test_on(rt, image, script, &mut kernel),
+        Ok(mut kernel) => test_on(rt, test, &mut kernel),
         Err(_) => Err(RunFault::Session(ScriptFault::Memory)),
     }
 }
@@ -98,36 +130,33 @@ fn test_in_memory<'a>(
 /// Runs it on a VM file in memory.
 fn test_on_copy<'a>(
     rt: &HostRuntime,
-    image: &[u8],
-    script: &Contents<'a>,
+    test: Subject<'_, 'a>,
     region: u32,
     file: VmFile<MemoryDevice>,
 ) -> Result<Tested, RunFault<'a>>
     requires { IsRegion region }
 {
     match Kernel::new(rt.alloc(), region, file) {
-        Ok(mut kernel) => test_on(rt, image, script, &mut kernel),
+        Ok(mut kernel) => test_on(rt, test, &mut kernel),
         Err(_) => Err(RunFault::Session(ScriptFault::Memory)),
     }
 }
 
-/// Reads a test script, and runs it on a copy of a VM file, or on a new one.
+/// Runs a test script on a copy of a VM file, or on a new one.
 fn test_one<'a>(
     rt: &HostRuntime,
-    image: &[u8],
-    path: &'a str,
+    test: Subject<'_, 'a>,
     copied: &Option<Contents<'a>>,
     region: u32,
 ) -> Result<Tested, RunFault<'a>>
     requires { IsRegion region }
 {
-    let script = Contents::of_script(rt, path)?;
     match copied {
         Some(copied) => {
             let file = copied.file(rt.alloc())?;
-            test_on_copy(rt, image, &script, region, file)
+            test_on_copy(rt, test, region, file)
         }
-        None => test_in_memory(rt, image, &script, region),
+        None => test_in_memory(rt, test, region),
     }
 }
 
@@ -159,33 +188,117 @@ fn write_suites<'a>(
     }
 }
 
-/// Runs test scripts one after another, each on a new VM file in memory, or on a copy of a VM file. Prints a line for each line that failed,
-/// and then how many passed and failed; then writes JUnit XML if a path is given for it. Returns whether none failed, and none is bad.
-///
-/// `StreamFault::Write` if the path leads to one of the scripts.
-pub fn test<'a>(
+/// What test scripts came to.
+#[derive(Drop)]
+struct Results {
+    passed: usize,
+    failed: usize,
+    /// Whether a line is bad.
+    is_bad: bool,
+    /// The suites of JUnit XML.
+    suites: Text,
+    coverage: Coverage,
+}
+
+impl Results {
+    /// No script has run. `ScriptFault::Memory` if there is no memory for what is counted, if that is required.
+    fn new(alloc: Global, counts: bool) -> Result<Results, ScriptFault> {
+        let mut suites = Text::new(alloc);
+        suites.put("<?xml version=\"1.0\" encoding=\"UTF-8\"?>\n<testsuites>\n");
+        let coverage = if counts {
+            Coverage::new(alloc)?
+        } else {
+            Coverage::unwanted(alloc)
+        };
+        Ok(Results {
+            passed: 0,
+            failed: 0,
+            is_bad: false,
+            suites,
+            coverage,
+        })
+    }
+
+    /// Adds those of another script, which began with the coverage.
+    fn add(&mut self, tested: Tested) {
+        let Tested {
+            suite,
+            passed,
+            failed,
+            is_bad,
+            coverage,
+            ..
+        } = tested;
+        self.suites.put_bytes(&suite);
+        self.passed = self.passed.saturating_add(passed);
+        self.failed = self.failed.saturating_add(failed);
+        self.is_bad = self.is_bad || is_bad;
+        self.coverage = coverage;
+    }
+}
+
+/// Runs test scripts one after another, and prints a line for each line that failed.
+fn test_all<'a>(
     rt: &HostRuntime,
     image: &[u8],
     request: &TestRequest<'a>,
-) -> Result<bool, RunFault<'a>>
+) -> Result<Results, RunFault<'a>>
     requires { IsRegion request.now.region }
 {
     let copied = match request.file {
         Some(path) => Some(Contents::of_file(rt, path)?),
         None => None,
     };
-    let (mut passed, mut failed) = (0usize, 0usize);
-    let mut is_bad = false;
-    let mut suites = Text::new(rt.alloc());
-    suites.put("<?xml version=\"1.0\" encoding=\"UTF-8\"?>\n<testsuites>\n");
-    for script in &request.scripts {
-        keep_script(rt, request.junit, *script)?;
-        let tested = test_one(rt, image, *script, &copied, request.region)?;
+    let mut results = Results::new(rt.alloc(), request.coverage)?;
+    for path in &request.scripts {
+        keep_script(rt, request.junit, *path)?;
+        let script = Contents::of_script(rt, *path)?;
+        let coverage = results.coverage.take(rt.alloc());
+        let test = Subject {
+            image,
+            script,
+            coverage,
+        };
+        let tested = test_one(rt, test, &copied, request.region)?;
         print_lines(rt, &tested.told)?;
-        suites.put_bytes(&tested.suite);
-        passed = passed.saturating_add(tested.passed);
-        failed = failed.saturating_add(tested.failed);
-        is_bad = is_bad || tested.is_bad;
+        results.add(tested);
+    }
+    Ok(results)
+}
+
+/// Prints how often each line of what was tested ran.
+fn print_coverage<'a>(
+    rt: &HostRuntime,
+    testable: &Testable<'_>,
+    coverage: &Coverage,
+) -> Result<(), RunFault<'a>> {
+    match coverage_text(rt.alloc(), testable, coverage) {
+        Ok(text) => Ok(print_lines(rt, &text)?),
+        Err(error) => Err(RunFault::Session(ScriptFault::from(error))),
+    }
+}
+
+/// Runs test scripts one after another, each on a new VM file in memory, or on a copy of a VM file. Prints a line for each line that failed;
+/// then, if required, how often each line of the text ran; and then how many passed and failed. Writes JUnit XML if a path is given for it.
+/// Returns whether none failed, and none is bad.
+///
+/// `StreamFault::Write` if the path leads to one of the scripts.
+pub fn test<'a>(
+    rt: &HostRuntime,
+    testable: &Testable<'_>,
+    request: &TestRequest<'a>,
+) -> Result<bool, RunFault<'a>>
+    requires { IsRegion request.now.region }
+{
+    let Results {
+        passed,
+        failed,
+        is_bad,
+        suites,
+        coverage,
+    } = test_all(rt, testable.image, request)?;
+    if request.coverage {
+        print_coverage(rt, testable, &coverage)?;
     }
     match format!(in rt.alloc(); "{passed} passed, {failed} failed\n") {
         Ok(ending) => print(rt, ending.as_bytes())?,

@@ -170,6 +170,7 @@ test Runs scripts whose lines say what they are to print
 +SCRIPT A file of commands, at most 1,048,576 bytes; `-` is the standard input
 :file=FILE The VM file of which each script gets a copy in memory; without it, a new one
 :junit=OUT The file that the results go to as JUnit XML
+-coverage Prints how often each line of IN ran, after the lines that failed
 #region=1048576 How many bytes of memory the blocks have, 65536 to 16777216
 
 Each SCRIPT runs as by `geos call IN`, and a line may end with `=>` and what it is to print:
@@ -184,9 +185,17 @@ or ends there, and the lines with `=>` that did not run have failed. The last li
 `=>`, as `7 passed, 1 failed`. The status is 1 if a line failed or is bad.
 With --junit, the file OUT gets the same as JUnit XML: a suite for each SCRIPT, and in it a case for each line
 with `=>`, and for each bad line. After a fault OUT is unchanged.
+With --coverage, each line of the text or the source in IN follows, with how often it ran in all scripts:
+       12:         ADD w0 w0 w1
+        -:         ; a line without an instruction
+    #####:         OUT w0 end       which never ran
+The count of a line of a source is the highest of its instructions, with `*` after it if one of them never
+ran. The lines of files that the source uses precede it. If IN is an image, each instruction has a line with
+its pc, counted from 0. Then `11 of 12 instructions ran` precedes the last line.
 
 Example:
   geos test add.asm add.script      if add.asm has the text of `geos help`
+  geos test add.asm add.script --coverage
 ====
 asm Makes the image of a text
 !IN A file of assembly text, at most 1,048,576 bytes; `-` is the standard input

@@ -6,7 +6,7 @@ use std::alloc::{AllocError, Global};
 pub(crate) const USAGES: &str = "\
 geos call IN [NAME [N..]] [--file FILE [--update | --save]] [--grant EFFECTS] [--most-steps N] [--most-bytes N] [--most-blocks N] [--region N] [--strict] [FORM | --json]
        geos trace IN NAME [N..] [--steps N|A..B | --from STEP] [--only ROUTINE | --count | --html OUT] [--break ROUTINE:LINE].. [--when CONDITION].. [--watch H:C] [--file FILE] [--grant EFFECTS] [--most-steps N] [--most-bytes N] [--most-blocks N] [--region N] [--json]
-       geos test IN SCRIPT.. [--file FILE] [--junit OUT] [--region N]
+       geos test IN SCRIPT.. [--file FILE] [--junit OUT] [--coverage] [--region N]
        geos asm IN OUT [--all-rows] [--json]
        geos budget TEXT [OUT | --in-place]
        geos fmt TEXT [OUT | --in-place]

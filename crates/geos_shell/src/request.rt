@@ -143,6 +143,8 @@ pub struct TestRequest<'a> {
     pub region: u32,
     /// The path that what they came to goes to as JUnit XML, if that is required.
     pub junit: Option<&'a str>,
+    /// Whether it is printed how often each line of the text or the image ran.
+    pub coverage: bool,
 }
 
 /// To make something of a text or an image, or to say something of it. Nothing runs.
@@ -342,6 +344,7 @@ fn test_of<'a>(alloc: Global, given: &Given<'_, 'a>) -> Result<Request<'a>, Allo
         file: given.setting("file"),
         region: given.number(&REGION),
         junit: given.setting("junit"),
+        coverage: given.flag("coverage"),
         scripts: given.words(alloc, "SCRIPT")?,
     }))
 }

@@ -63,6 +63,7 @@ pub fn assemble<'a>(
                 text: bytes,
                 marks,
                 told: Vec::new(rt.alloc()),
+                source: Vec::new(rt.alloc()),
             };
             warn(rt, reports, &made);
             write(rt, image, &made.image, text)?;
@@ -123,6 +124,7 @@ fn refused<'a>(
                 text: Vec::new(alloc),
                 marks,
                 told: Vec::new(alloc),
+                source: Vec::new(alloc),
             },
             reject,
         }),

@@ -81,6 +81,8 @@ pub struct Runnable<'a> {
     pub marks: LineMarks,
     /// The warnings about a source. Those about a text are found when they are required.
     pub(crate) told: Vec<u8>,
+    /// The source that the image was made of, after the files that it uses. Empty without one.
+    pub source: Vec<u8>,
 }
 
 impl<'a> Runnable<'a> {
@@ -112,10 +114,20 @@ impl<'a> Runnable<'a> {
                 text,
                 marks,
                 told: Vec::new(alloc),
+                source: Vec::new(alloc),
             }),
             Err(NotMade { text, fault }) => Err(TextFault::Assemble(FaultyText::new(
                 alloc, path, text, marks, fault,
             ))),
+        }
+    }
+
+    /// The text or the source that the image was made of; empty without one. Its lines are those of `lines`.
+    pub fn written(&self) -> &[u8] {
+        if self.source.is_empty() {
+            &self.text
+        } else {
+            &self.source
         }
     }
 

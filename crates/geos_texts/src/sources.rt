@@ -121,6 +121,7 @@ fn runnable<'a>(
         text: Vec::new(alloc),
         marks,
         told,
+        source: Vec::from_slice(alloc, text)?,
     })
 }
 

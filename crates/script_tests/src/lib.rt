@@ -2,17 +2,23 @@
 //!
 //! | Module | Has |
 //! |---|---|
+//! | coverage | `Coverage`: how often instructions ran |
 //! | lines | the lines of a test script: a command, and after `=>` what it is to print |
 //! | printed | whether a line printed what it is to print |
 //! | report | what is printed of a test script |
 //! | running | `test_script`: runs a test script |
+//! | script | `TestScript` |
 //! | suite | attributes of JUnit XML |
 #![tactic(auto)]
 
+mod coverage;
 mod lines;
 mod printed;
 mod report;
 mod running;
+mod script;
 mod suite;
 
+pub use coverage::Coverage;
 pub use running::{Tested, test_script};
+pub use script::TestScript;

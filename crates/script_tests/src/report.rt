@@ -10,7 +10,7 @@ use geos_text::{first_line, is_blank};
 use sentence_text::Text;
 use std::alloc::Global;
 
-/// What is printed of a test script, as it runs.
+/// What is reported of a test script, as it runs.
 #[derive(Drop)]
 pub(crate) struct Report<'p> {
     /// The path of the script, as it is printed.

@@ -1,22 +1,25 @@
 //! Test scripts are run.
 
-ghost use Rattle.std.specs.Prelude.{◌≡◌, ◌+◌, ◌≤◌, IfOk};
+ghost use Rattle.std.specs.Prelude.{◌≡◌, ◌+◌, ◌≤◌, true, IfOk};
 ghost use Rattle.geos_cli.specs.Begun.{IsBegunOn};
+ghost use Rattle.script_commands.specs.Lines.{IsAdmitted, may_ask};
 ghost use Rattle.script_tests.specs.Expected.{expecting, expecting_of};
 ghost use Rattle.vm_blocks.specs.Listed.{NoneLocked};
 
-use crate::lines::{TestLine, count_expecting, plain_script, test_lines};
+use crate::coverage::Coverage;
+use crate::lines::{TestLine, count_expecting};
 use crate::report::Report;
-use geos_cli::{Counted, Form, MOST_BYTES, Progress, ScriptFault, Unwatched, Writing};
+use crate::script::{Ready, TestScript};
+use geos_cli::{Counted, Form, Progress, ScriptFault, Unwatched, Writing, trace_lent};
 use geos_kernel::Kernel;
-use geos_scripts::{NameUse, tell_bad_lines};
-use geos_verify::{Checked, check};
-use script_commands::{Kept, command_in, keep};
+use geos_machine::Trace;
+use geos_verify::Checked;
+use script_commands::{Call, Command, Kept, command_in, first_put_out, keep, print, print_refusal};
 use std::alloc::Global;
 use vm_file::Device;
 
 /// How outputs are compared: each word in decimal, on a line.
-const PLAIN: Form = Form {
+pub(crate) const PLAIN: Form = Form {
     writing: Writing::Decimal,
     label: false,
 };
@@ -34,63 +37,109 @@ pub struct Tested {
     pub failed: usize,
     /// Whether a line is bad.
     pub is_bad: bool,
+    /// How often instructions ran, in this script and those before it.
+    pub coverage: Coverage,
 }
 
-/// A script that runs: its progress, and the names of its lines so far.
+/// A script that runs: its image, its progress, and the names of its lines so far.
 #[derive(Drop)]
 struct Run<'a> {
+    checked: &'a Checked,
     progress: Progress<Unwatched>,
     names: Vec<Kept<'a>>,
+    coverage: Coverage,
+}
+
+/// Runs a call, counts how often each instruction ran, and prints what it outputs. Returns the first word of this.
+fn count_call<'a, D: Device + Drop>(
+    alloc: Global,
+    run: &mut Run<'a>,
+    call: &Call,
+    kernel: &mut Kernel<D>,
+    out: &mut Counted<Vec<u8>>,
+) -> Result<Option<u16>, ScriptFault>
+    requires admitted { may_ask run.old.checked.now call.now ≡ true }
+    requires unlocked { NoneLocked kernel.old.core.blocks }
+    ensures unlocked { NoneLocked kernel.new.core.blocks }
+    ensures begun { (run.new.checked.now ≡ run.old.checked.now) × (run.new.progress.first ≡ run.old.progress.first) }
+{
+    let mut notes = Trace::new(alloc, 0, 0, 0)?;
+    match trace_lent(run.checked, call, kernel, &mut notes, &mut Unwatched) {
+        Ok(outcome) => print(outcome.output.as_slice(), out)?,
+        Err(refusal) => print_refusal(refusal, out)?,
+    }
+    run.coverage.add(&notes);
+    Ok(first_put_out(&out.stream))
+}
+
+/// Carries out a command, prints what it outputs, and returns the first word of this.
+fn carry_out_command<'a, D: Device + Drop>(
+    alloc: Global,
+    run: &mut Run<'a>,
+    command: &Command,
+    kernel: &mut Kernel<D>,
+    out: &mut Counted<Vec<u8>>,
+) -> Result<Option<u16>, ScriptFault>
+    requires admitted { IsAdmitted run.old.checked.now command.now }
+    requires unlocked { NoneLocked kernel.old.core.blocks }
+    requires begun { IsBegunOn run.old.checked.now run.old.progress.first }
+    ensures unlocked { NoneLocked kernel.new.core.blocks }
+    ensures begun { IsBegunOn run.new.checked.now run.new.progress.first }
+{
+    match command {
+        Command::Call(call) if run.coverage.is_wanted() => {
+            count_call(alloc, run, call, kernel, out)
+        }
+        _ => {
+            let checked = run.checked;
+            let carried = run
+                .progress
+                .carry_out_next(alloc, PLAIN, checked, command, kernel, out);
+            match carried {
+                Ok((_done, word)) => Ok(word),
+                Err(_) => Err(ScriptFault::Memory),
+            }
+        }
+    }
 }
 
 /// Carries out the next line of a script, and returns what it printed. `None` if the line is bad with the words that its names have.
 fn carry_out<'a, D: Device + Drop>(
     alloc: Global,
-    checked: &Checked,
     run: &mut Run<'a>,
     line: &'a [u8],
     kernel: &mut Kernel<D>,
 ) -> Result<Option<Vec<u8>>, ScriptFault>
     requires unlocked { NoneLocked kernel.old.core.blocks }
-    requires begun { IsBegunOn checked.now run.old.progress.first }
+    requires begun { IsBegunOn run.old.checked.now run.old.progress.first }
     ensures unlocked { NoneLocked kernel.new.core.blocks }
-    ensures begun { IsBegunOn checked.now run.new.progress.first }
+    ensures begun { IsBegunOn run.new.checked.now run.new.progress.first }
 {
-    let Some(command) = command_in(alloc, checked, &run.names, line)? else {
+    let Some(command) = command_in(alloc, run.checked, &run.names, line)? else {
         return Ok(None);
     };
     let mut out = Counted::new(Vec::new(alloc));
-    let carried = run
-        .progress
-        .carry_out_next(alloc, PLAIN, checked, &command, kernel, &mut out);
-    match carried {
-        Ok((_done, word)) => {
-            keep(&mut run.names, line, word)?;
-            Ok(Some(out.stream))
-        }
-        Err(_) => Err(ScriptFault::Memory),
-    }
+    let word = carry_out_command(alloc, run, &command, kernel, &mut out)?;
+    keep(&mut run.names, line, word)?;
+    Ok(Some(out.stream))
 }
 
 /// Carries out the lines one after another, as those of a script, and returns how many printed what they are to print. The script ends at a
 /// line that is bad with the words that its names have.
-fn run_lines<D: Device + Drop>(
+fn run_lines<'a, D: Device + Drop>(
     alloc: Global,
-    checked: &Checked,
-    lines: &[TestLine],
+    run: &mut Run<'a>,
+    lines: &'a [TestLine],
     kernel: &mut Kernel<D>,
     report: &mut Report,
 ) -> Result<usize, ScriptFault>
-    requires { NoneLocked kernel.old.core.blocks }
+    requires unlocked { NoneLocked kernel.old.core.blocks }
+    requires begun { IsBegunOn run.old.checked.now run.old.progress.first }
     ensures { IfOk result (λ passed. passed ≤ expecting_of lines.now) }
 {
-    let mut run = Run {
-        progress: Progress::new(checked, Unwatched),
-        names: Vec::new(alloc),
-    };
     let mut passed: usize = 0;
     for line in lines {
-        let Some(printed) = carry_out(alloc, checked, &mut run, line.command, kernel)? else {
+        let Some(printed) = carry_out(alloc, run, line.command, kernel)? else {
             report.end_at(line, lines);
             return Ok(passed);
         };
@@ -102,7 +151,12 @@ fn run_lines<D: Device + Drop>(
 }
 
 /// What a script came to, of whose lines so many passed.
-fn finished(report: Report, lines: &[TestLine], passed: usize) -> Result<Tested, ScriptFault>
+fn finished(
+    report: Report,
+    lines: &[TestLine],
+    passed: usize,
+    coverage: Coverage,
+) -> Result<Tested, ScriptFault>
     requires { passed ≤ expecting_of lines.now }
     ensures { IfOk result (λ tested. tested.passed + tested.failed ≡ expecting_of lines.now) }
 {
@@ -120,47 +174,44 @@ fn finished(report: Report, lines: &[TestLine], passed: usize) -> Result<Tested,
         passed,
         failed,
         is_bad,
+        coverage,
     })
 }
 
-/// The image that the bytes encode, checked.
-fn checked_of(alloc: Global, image: &[u8]) -> Result<Checked, ScriptFault> {
-    match check(geos_image::read(alloc, image)?) {
-        Ok(checked) => Ok(checked),
-        Err((_image, reject)) => Err(ScriptFault::from(reject)),
-    }
-}
-
-/// Runs a test script for an image, as `geos_cli::run_script_with_names` runs a script, except that its lines may end with `=>` and what they
-/// are to print: its words are those that the line prints. A line that does not print them has failed. If a line is bad before anything
-/// runs, nothing runs. A line that does not run has failed. `path` is the path of the script, as it is printed.
+/// Runs a test script, as `geos_cli::run_script_with_names` runs a script, except that its lines may end with `=>` and what they are to
+/// print: its words are those that the line prints. A line that does not print them has failed. If a line is bad before anything runs,
+/// nothing runs. A line that does not run has failed. The runs of its calls are added to the coverage, if this is required.
 ///
 /// Returns the first of these faults: `TooLong` if the script has more than 1,048,576 bytes; `BadImage`; `Rejected`. `Memory` is possible at
 /// any time.
 pub fn test_script<D: Device + Drop>(
     alloc: Global,
-    path: &str,
-    image: &[u8],
-    script: &[u8],
+    script: &TestScript<'_>,
+    coverage: Coverage,
     kernel: &mut Kernel<D>,
 ) -> Result<Tested, ScriptFault>
     // No block of the file is locked by others: `Kernel::vm_unlocked` tells it.
     requires unlocked { NoneLocked kernel.old.core.blocks }
     // Each line with `=>` has passed or has failed.
-    ensures counted { IfOk result (λ tested. tested.passed + tested.failed ≡ expecting script.now) }
+    ensures counted { IfOk result (λ tested. tested.passed + tested.failed ≡ expecting script.now.bytes.now) }
 {
-    if script.len() > MOST_BYTES {
-        return Err(ScriptFault::TooLong);
-    }
-    let checked = checked_of(alloc, image)?;
-    let lines = test_lines(alloc, script)?;
-    let plain = plain_script(alloc, script)?;
-    let mut report = Report::new(alloc, path);
-    let bad = tell_bad_lines(alloc, image, &plain, NameUse::Allowed)?;
+    let Ready {
+        checked,
+        lines,
+        bad,
+    } = script.read(alloc)?;
+    let mut report = Report::new(alloc, script.path);
     if bad.first.is_some() {
         report.refuse(&bad.told, &lines);
-        return finished(report, &lines, 0);
+        return finished(report, &lines, 0, coverage);
     }
-    let passed = run_lines(alloc, &checked, &lines, kernel, &mut report)?;
-    finished(report, &lines, passed)
+    let mut run = Run {
+        checked: &checked,
+        progress: Progress::new(&checked, Unwatched),
+        names: Vec::new(alloc),
+        coverage,
+    };
+    let passed = run_lines(alloc, &mut run, &lines, kernel, &mut report)?;
+    let Run { coverage, .. } = run;
+    finished(report, &lines, passed, coverage)
 }

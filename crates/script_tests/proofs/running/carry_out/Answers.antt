@@ -4,6 +4,6 @@ use Rattle.script_commands.specs.Names.{names_of}
 use Rattle.geos_cli.proofs.NamedRun.{admitted-named}
 use Rattle.script_tests.proofs.running.carry_out.Goals as goal
 
-pub carry_out_next-carried-requires-clause-admitted : goal.carry_out_next-carried-requires-clause-admitted
-carry_out_next-carried-requires-clause-admitted g c = admitted-named c.args.checked.now (names_of c.deref.result.now) (words c.args.line.now) c.in-Some.command
-    (sym c.in_ok-command.ensures ∙ c.in-Some.is)
+pub carry_out_command-requires-clause-admitted : goal.carry_out_command-requires-clause-admitted
+carry_out_command-requires-clause-admitted g c = admitted-named c.args.run.now.checked.now (names_of c.deref.result.now) (words c.args.line.now)
+    c.in-Some.command (sym c.in_ok-command.ensures ∙ c.in-Some.is)

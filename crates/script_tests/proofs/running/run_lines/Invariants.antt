@@ -8,4 +8,4 @@ abbrev pub invariant-loop-line : goal.invariant-loop-line
 invariant-loop-line g l =
     (l.passed ≤ expecting_of (take l.line-index l.fn.lines))
     × NoneLocked l.kernel.core.blocks
-    × IsBegunOn l.fn.checked l.run.progress.first
+    × IsBegunOn l.run.checked.now l.run.progress.first
