@@ -55,6 +55,7 @@ COMMANDS = [
     (["trace", "image", "get", "--file", "file.vm"], None, None),
     (["test", "image", "test.script", "--file", "file.vm"], None, None),
     (["test", "image", "test.script", "--junit", "new.xml"], None, "new.xml"),
+    (["test", "keep.asm", "test.script", "--coverage"], None, None),
     (["check", "file.vm"], None, None),
     (["put", "file.vm", "1", "16"], "script", None),
     (["put", "file.vm", "--new-block", "7"], "script", "file.vm"),
