@@ -127,6 +127,7 @@ fn manner_of(
     Manner {
         mode: mode_of(strict),
         names,
+        expects: false,
         room: ALL,
         form,
         commit,
@@ -318,12 +319,14 @@ fn run_on<'a, 't>(
             file,
             region,
             strict,
+            expect: expects,
             form,
             commit,
             ..
         } => {
             let manner = Manner {
                 room,
+                expects,
                 ..manner_of(reports, strict, NameUse::Allowed, form, commit)
             };
             run_call(rt, &manner, image, call, file, region)
@@ -342,6 +345,7 @@ fn run_on<'a, 't>(
             script,
             region,
             strict,
+            expect: expects,
             names,
             form,
             commit,
@@ -349,6 +353,7 @@ fn run_on<'a, 't>(
         } => {
             let manner = Manner {
                 room,
+                expects,
                 ..manner_of(reports, strict, use_of(names), form, commit)
             };
             run(rt, &manner, image, file, script, region)

@@ -5,6 +5,7 @@ ghost use Rattle.geos_shell.specs.Limits.{IsRegion};
 
 use crate::MOST_READ;
 use crate::bad_lines::Script;
+use crate::comparing::compare_script_on;
 use crate::ending::ended;
 use crate::fault::RunFault;
 use crate::manner::{Manner, run_call_on, run_script_on};
@@ -12,6 +13,7 @@ use geos_cli::ScriptFault;
 use geos_files::{Locked, opened, wait_for};
 use geos_kernel::{Kernel, kernel_in_memory};
 use geos_shell::{CallWords, Lockable, STANDARD, Sharing, read};
+use script_tests::plain_script;
 use vm_file::{Device, FileDevice, VmFile};
 
 /// What is run.
@@ -53,6 +55,9 @@ impl<'a> Job<'_, 'a> {
         kernel.limit_handles(self.manner.room.handles);
         match &self.work {
             Work::Call(call) => run_call_on(rt, self.manner, self.image, call, kernel),
+            Work::Script(path, bytes) if self.manner.expects => {
+                self.compare(rt, path, bytes, kernel)
+            }
             Work::Script(path, bytes) => {
                 self.script(path, bytes).warn(rt, self.manner);
                 match run_script_on(rt, self.manner, self.image, bytes, kernel) {
@@ -64,6 +69,27 @@ impl<'a> Job<'_, 'a> {
                     }
                 }
             }
+        }
+    }
+
+    /// Runs a script of this path, and compares what it prints.
+    fn compare<D: Device + Drop>(
+        &self,
+        rt: &HostRuntime,
+        path: &str,
+        bytes: &[u8],
+        kernel: &mut Kernel<D>,
+    ) -> Result<(), RunFault<'a>>
+        requires { NoneLocked kernel.old.core.blocks }
+    {
+        let Ok(plain) = plain_script(rt.alloc(), bytes) else {
+            return Err(RunFault::Session(ScriptFault::Memory));
+        };
+        let commands = self.script(path, &plain);
+        commands.warn(rt, self.manner);
+        match compare_script_on(rt, self.manner, &self.script(path, bytes), kernel) {
+            Ok(()) => Ok(()),
+            Err(fault) => Err(commands.diagnosed(rt.alloc(), self.manner, fault)),
         }
     }
 

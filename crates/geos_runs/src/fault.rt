@@ -26,6 +26,9 @@ pub enum RunFault<'a> {
     /// The line of a script that runs strictly, counted from 1, is a command that was refused.
     #[error("line {0}: refused {1}")]
     Refused(usize, u16),
+    /// So many lines of a script printed what they say, and so many something else.
+    #[error("{0} passed, {1} failed")]
+    Failed(usize, usize),
     /// A call of the kernel on a chunk was refused, or a block that a routine borrows.
     #[error("refused {0}")]
     NotDone(u16),

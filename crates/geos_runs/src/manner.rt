@@ -25,6 +25,8 @@ pub struct Manner {
     pub mode: Mode,
     /// Whether its lines may write names for words that calls output.
     pub names: NameUse,
+    /// Whether its lines may end with `=>` and what they are to print.
+    pub expects: bool,
     /// What blocks in memory may take.
     pub room: Room,
     /// How outputs are written.
@@ -60,7 +62,7 @@ fn form_of(form: &OutputForm) -> Form {
 }
 
 /// The options of a run with a follower.
-fn options_of<F>(manner: &Manner, follower: F) -> RunOptions<F> {
+pub(crate) fn options_of<F>(manner: &Manner, follower: F) -> RunOptions<F> {
     RunOptions {
         form: form_of(&manner.form),
         mode: manner.mode,

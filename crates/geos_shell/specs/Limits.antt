@@ -27,9 +27,9 @@ IsWidth n = (60 ≤ n) × (n ≤ 1000)
 -- each number of what runs routines is within its limits
 abbrev pub RunsWithinLimits : RoutineRequest → Type 0
 RunsWithinLimits Session = Unit {0}
-RunsWithinLimits (Call image call file region strict form commit) = IsRegion region
+RunsWithinLimits (Call image call file region strict expect form commit) = IsRegion region
 RunsWithinLimits (Trace image words file region) = IsRegion region
-RunsWithinLimits (Run image file script region strict names form commit) = IsRegion region
+RunsWithinLimits (Run image file script region strict expect names form commit) = IsRegion region
 
 -- each number of what works on a VM file is
 abbrev pub WorksWithinLimits : FileRequest → Type 0

@@ -81,6 +81,7 @@ call Checks a text or an image, and runs one of its routines, or a script
 #most-blocks=1024 How many blocks of memory there may be, 0 to 1024; one more is refused 5
 #region=1048576 How many bytes of memory the blocks have, 65536 to 16777216
 -strict Ends with status 1 at the first line of the script that prints `refused K`
+-expect Compares what lines of the script print with the words after their `=>`
 -hex Prints words as 0x and four hexadecimal digits
 -signed Prints words as numbers from -32768 to 32767
 -text Prints the words of a call as bytes of a text
@@ -96,6 +97,8 @@ numbers, `@` and a handle name a block of FILE for each slot that the routine bo
 routine outputs is printed in decimal on a line. `bad call: ..` says what is wrong with the call. With status
 1, `refused K` means that a block cannot be lent. Without NAME, geos runs the script on the standard input as
 `run` does, also with --strict, and its lines may use names as with --vars.
+
+With --expect, lines of the script may end with `=>`, as `geos help run` says.
 
 With --hex, the word 10 is printed as 0x000a, and with --signed, 65534 as -2. With --text, all words of a
 call are printed on one line: a word below 256 as a byte, any other as two bytes, the low one first. With
@@ -331,6 +334,7 @@ run Runs a script on a VM file
 #most-blocks=1024 How many blocks of memory there may be, 0 to 1024; one more is refused 5
 #region=1048576 How many bytes of memory the blocks have, 65536 to 16777216
 -strict Ends with status 1 at the first line of SCRIPT that prints `refused K`
+-expect Compares what lines of SCRIPT print with the words after their `=>`
 -vars Lets lines keep words under names, as `call make -> h`, and use them, as `call use $h 5`
 -update Commits at the end, as the command `update` of a script does
 -save Commits at the end, as the command `save` of a script does
@@ -361,6 +365,10 @@ If the call outputs none, the name becomes undefined. A name has letters, digits
 calls $NAME means the number, and @$NAME a handle. If a line is wrong only with the number of a name, the
 script ends at this line with `bad script line N`, and the lines before it are done. At most 1,024 lines
 store a word.
+With --expect, a line may end with `=>` and what it is to print, as for `geos test`: `call add 2 3 => 5`. All
+output is printed as without --expect. Then each line that printed something else is reported on standard
+error as `SCRIPT:3: expected 5, printed 6`, and the status is 1. After that, --update and --save do not commit.
+Lines that did not run are not compared.
 `geos help call` says how --hex, --signed, --text and --label print. The label of a commit is its word.
 
 If the program or the computer stops, the file is as before one of these commands or as after it, never in

@@ -101,13 +101,15 @@ pub enum RoutineRequest<'a> {
     /// To run the session on the standard input.
     Session,
     /// To run one call of a text's or an image's routines, or with none the script on the standard input; on a VM file, or with none on
-    /// one in memory, with so many bytes for blocks in memory; a script to its end, or, strictly, to its first refused command.
+    /// one in memory, with so many bytes for blocks in memory; a script to its end, or, strictly, to its first refused command. Its lines may
+    /// say what they are to print, or may not.
     Call {
         image: &'a str,
         call: Option<CallWords<'a>>,
         file: Option<&'a str>,
         region: u32,
         strict: bool,
+        expect: bool,
         form: OutputForm,
         commit: Option<EndCommit>,
     },
@@ -120,13 +122,14 @@ pub enum RoutineRequest<'a> {
         region: u32,
     },
     /// To run a script on a VM file, with so many bytes for blocks in memory; to its end, or, strictly, to
-    /// its first refused command. Its lines may write names for words, or may not.
+    /// its first refused command. Its lines may write names for words, or may not, and may say what they are to print, or may not.
     Run {
         image: &'a str,
         file: &'a str,
         script: &'a str,
         region: u32,
         strict: bool,
+        expect: bool,
         names: bool,
         form: OutputForm,
         commit: Option<EndCommit>,
@@ -300,6 +303,7 @@ fn call_of<'a>(alloc: Global, given: &Given<'_, 'a>) -> Result<Request<'a>, Allo
         file: given.setting("file"),
         region: given.number(&REGION),
         strict: given.flag("strict"),
+        expect: given.flag("expect"),
         form: OutputForm::of(given),
         commit: EndCommit::of(given),
     }))
@@ -378,6 +382,7 @@ fn run_of<'a>(given: &Given<'_, 'a>) -> Request<'a>
         script: given.word("SCRIPT"),
         region: given.number(&REGION),
         strict: given.flag("strict"),
+        expect: given.flag("expect"),
         names: given.flag("vars"),
         form: OutputForm::of(given),
         commit: EndCommit::of(given),

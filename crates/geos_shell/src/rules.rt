@@ -48,6 +48,7 @@ call IN=- !NAME: IN is the standard input, so NAME has to be given
 call update save: only one of '--update' and '--save' can be given
 call update !file: '--update' and '--save' require '--file'
 call save !file: '--update' and '--save' require '--file'
+call expect NAME: '--expect' is for a script, so NAME can't be given
 trace html count: '--html' can't be given with '--only' or '--count'
 trace html only: '--html' can't be given with '--only' or '--count'
 test IN+SCRIPT=--: only one of IN and SCRIPT.. is the standard input
@@ -93,6 +94,7 @@ fmt TEXT==OUT !TEXT=-: TEXT and OUT are one file, and the text would be lost
 * json signed: only one of '--json' and '--signed' can be given
 * json text: only one of '--json' and '--text' can be given
 * json label: only one of '--json' and '--label' can be given
+* json expect: only one of '--json' and '--expect' can be given
 * json html: only one of '--json' and '--html' can be given
 * json script: only one of '--json' and '--script' can be given
 * json OUT=-: only one of '--json' and OUT '-' can be given";

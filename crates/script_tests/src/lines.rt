@@ -104,8 +104,8 @@ pub(crate) fn count_expecting(lines: &[TestLine]) -> usize
     lines.iter().filter(|line| line.expected.is_some()).count()
 }
 
-/// The same script with its commands only. It is not longer.
-pub(crate) fn plain_script(alloc: Global, script: &[u8]) -> Result<Vec<u8>, AllocError> {
+/// The same script with its commands only: no line has a `=>` or a comment. Each line has the number that it had. It is not longer.
+pub fn plain_script(alloc: Global, script: &[u8]) -> Result<Vec<u8>, AllocError> {
     let mut plain = Vec::new(alloc);
     let mut rest = script;
     // A line has at least one byte, so this is enough for all lines.
