@@ -47,6 +47,7 @@ COMMANDS = [
     (["run", "-", "file.vm", "script"], "image", "file.vm"),
     (["run", "image", "file.vm", "-"], "script", "file.vm"),
     (["call", "image"], "script", None),
+    (["call", "image", "--expect"], "test.script", None),
     (["call", "image", "put", "7", "--file", "file.vm"], None, None),
     (["call", "-", "put", "7"], "keep.asm", None),
     (["trace", "keep.asm", "put", "7"], None, None),
