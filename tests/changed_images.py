@@ -1,4 +1,4 @@
-"""Changes numbers of images at random, one to three of them, or one number of all rows, and compares what the program of `routine_trials`
+"""Changes numbers of images at random, one to three of them, or one number of all rows, and compares what the program of `trials`
 answers with a second reading of images, as damaged_images.py does.
 
     python3 changed_images.py PROGRAM COUNT SESSION..

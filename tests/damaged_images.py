@@ -1,4 +1,4 @@
-"""Sets each byte of an image to each value, and cuts the image at each length, and compares what the program of `routine_trials` answers
+"""Sets each byte of an image to each value, and cuts the image at each length, and compares what the program of `trials` answers
 with a second reading of images: the offset of the first fault, or the first pc and the lowest rule there, or how its public
 routines run on words that are 0, where they do so without blocks. Does the same with the image in version 2.
 
@@ -24,7 +24,7 @@ class Lines:
     """The lines that the program is given, each with what it must answer, and how many images were what."""
 
     def __init__(self):
-        self.wanted = []
+        self.wanted = ["on_routines -> ok"]
         self.legal = self.accepted = self.run = 0
 
     def ask(self, line, answer):
@@ -53,7 +53,7 @@ class Lines:
         name = f"{routine.name.decode()}, public, instructions {routine.count}, budget {routine.budget}"
         if any(routine.entry.slots):
             self.ask(f"routine {index}", name)
-            return self.ask("call", "not admitted")
+            return self.ask("call", "not asked: not admitted")
         try:
             steps, words, output = image_reading.run(image, index, [0] * 8)
         except NotImplementedError:

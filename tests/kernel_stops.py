@@ -1,5 +1,5 @@
 """Stops the kernel's commits at each call of the device, and lets the device lose or garble what was not synced. Compares what the
-program of `kernel_trials` answers, and the pair of directories that it finds afterwards, with what docs/FILES.md says: where the device
+program of `trials` answers, and the pair of directories that it finds afterwards, with what docs/FILES.md says: where the device
 fails before the selector is written, the pair from before is found, and the commit can be made again; at the write of the selector and the
 sync after it, the pair from before or the new one, and no commit is made any more; once a commit is done, the new one. All other calls
 write nothing.
@@ -10,6 +10,8 @@ write nothing.
 import copy
 import subprocess
 import sys
+
+from damaged_files import runs
 
 AREA = 1024
 GROUP = 65280
@@ -59,7 +61,7 @@ class Directory:
             yield f"vuid {h}", NONE if user is None else str(user)
             yield f"vlock {h}", {None: NONE, GROUP: RESERVED}.get(user, "ok")
             yield f"ilock {h} 16 0", str(len(chunks[16])) if user == GROUP else NONE
-            yield f"vm_bytes {h} 16", NOT_LOCKED if user is None else " ".join(map(str, chunks[16]))
+            yield f"vm_bytes {h} 16", NOT_LOCKED if user is None else runs(chunks[16])
             yield f"vunlock {h}", NOT_LOCKED if user is None else "ok"
 
 
@@ -177,8 +179,8 @@ class Runs:
 
     def answers(self, lines):
         """What the program prints."""
-        asked = "".join(f"{line}\n" for line in lines)
-        return subprocess.run([self.program], input=asked, stdout=subprocess.PIPE, text=True, check=True).stdout.splitlines()
+        asked = "".join(f"{line}\n" for line in ("on_kernel", *lines))
+        return subprocess.run([self.program], input=asked, stdout=subprocess.PIPE, text=True, check=True).stdout.splitlines()[1:]
 
     def calls(self, lines):
         """How many calls of the device the program makes for these lines."""

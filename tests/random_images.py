@@ -1,5 +1,5 @@
 """Makes random images of a private routine, whose rows are alike but for some numbers and whose potentials fall by one, and compares what the
-program of `routine_trials` answers with a second reading of images. Nearly all are legal, those with borrowed slots in version 2 alone, and
+program of `trials` answers with a second reading of images. Nearly all are legal, those with borrowed slots in version 2 alone, and
 the rules V2 to V9 and V11 to V13 come up. Then images whose rows are just what follows from the row before, or, now and then, a little more.
 Each is tried in version 2 too, where it is legal there.
 

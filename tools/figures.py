@@ -18,7 +18,7 @@ WIDTH = 860
 NAMED = (
     "geos_image geos_verify geos_semantics geos_machine granted_runs geos_source geos_infer geos_asm geos_listing geos_explain "
     "tkv_meaning tkv_places tkv_checks tkv_code tkv_theorem geos_shell geos_files geos_runs geos_cli language_server geos "
-    "trials kernel_trials routine_trials worked_examples"
+    "trials worked_examples"
 ).split()
 # Estimated width of a letter, in pixels.
 LETTER = 8.2

@@ -285,7 +285,7 @@ def run_on_kernel(program, trials, folder):
     subprocess.run([program, "asm", text, image], check=True)
     before = None
     for name, lines in ON_KERNEL.items():
-        asked = "\n".join(["image", image.read_bytes().hex(), "end", f"kernel {REGION}", *lines, ""]).encode()
+        asked = "\n".join(["on_kernel", "image", image.read_bytes().hex(), "end", f"kernel {REGION}", *lines, ""]).encode()
         times = []
         for _ in range(RUNS):
             start = time.perf_counter()

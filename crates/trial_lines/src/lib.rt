@@ -16,5 +16,5 @@ pub use answer::Answer;
 pub use line::{Line, MOST_NUMBERS, Reading, before_comment};
 pub use runs::Runs;
 pub use series::Series;
-pub use texts::{refused, shown, shown_done, shown_result, told};
+pub use texts::{shown, shown_done, shown_result, told};
 pub use trial::{Trial, carry_out};

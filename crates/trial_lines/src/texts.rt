@@ -9,11 +9,6 @@ pub fn told<R, T: Display + Drop>(alloc: Global, value: T) -> Result<Answer<R>, 
     Ok(Answer::Text(value.to_string(alloc)?))
 }
 
-/// That a call refuses, and why.
-pub fn refused<E: Display + Drop>(alloc: Global, why: E) -> Result<Answer<String>, AllocError> {
-    Ok(Answer::Refused(why.to_string(alloc)?))
-}
-
 /// That a call is done, and tells this as it is written in code.
 pub fn shown<R, T: Debug + Drop>(alloc: Global, value: T) -> Result<Answer<R>, AllocError> {
     Ok(Answer::Text(format!(in alloc; "{value:?}")?))

@@ -1,4 +1,19 @@
-//! Calls on VM files and on their devices.
+//! Calls on VM files and on their devices. Each block has 64 bytes, with a chunk of two bytes; the first of these tells the blocks apart.
+//!
+//! - `memory LEN` makes a device in memory, `system LEN` one on a file of the system. `system_open` opens this file,
+//!   `system_open_read_only` opens it only for reading, and `system_remove` removes it. Calls use the last device.
+//! - `cached LEN CALL` makes a device with a cache; this call of the device and each later one fails.
+//!   `power_off PART..` replaces it with a device in memory that has what a stop leaves: in each part of 512 bytes, 0
+//!   the durable bytes, 1 the written bytes, 2 garbage.
+//! - `write AT COUNT BYTE..`, `write_block AT H BYTE`, `read AT COUNT`, `sync`: calls on the device itself. `calls`
+//!   prints how many calls it had. `keep` saves a copy of its bytes.
+//! - `fail CALL` and `stop CALL` make a device in memory with the saved bytes; this call fails, or this call and each
+//!   later one. After `go_on` no call of the device fails any more. `cut LEN` opens the first LEN saved bytes.
+//! - `create AREA`, `open`, `current`, `saved`, `block H`, `saved_block H`: calls on the file. `pair` prints the bytes of
+//!   block 1, `blocks` prints how many blocks there are.
+//! - `no_block`, `entry H USER LEN`, `entries FROM TO USER`, `map_block H`, `map_item GROUP ITEM` and `take_current`
+//!   make the directory that is to be committed, `resident H BYTE`, `residents FROM TO BYTE` and `absent` the blocks in
+//!   memory; `update`, `save` and `revert` commit.
 
 use crate::draft::Draft;
 use crate::stand::{NO_DEVICE, Stand};
@@ -55,7 +70,7 @@ impl FileTrial {
             }
             "cached" => {
                 let device = CachedDevice::new(alloc, u64::from(number))?;
-                self.bench = Bench::Cached(Stand::new(device, call, true));
+                self.set(Bench::Cached(Stand::new(device, call, true)));
             }
             "power_off" => return self.power_off(alloc, line),
             "keep" => return self.keep(alloc),
@@ -85,7 +100,12 @@ impl FileTrial {
 
     /// Puts a device in memory in the place of the one before.
     fn put(&mut self, device: MemoryDevice, call: u64, rest: bool) {
-        self.bench = Bench::Memory(Stand::new(device, call, rest));
+        self.set(Bench::Memory(Stand::new(device, call, rest)));
+    }
+
+    /// Puts a device in the place of the one before.
+    fn set(&mut self, bench: Bench) {
+        self.bench = bench;
     }
 
     /// Makes a call on the device, or on the file that is open on it.
@@ -141,7 +161,7 @@ impl FileTrial {
         match device {
             Ok(device) => {
                 let len = device.len();
-                self.bench = Bench::System(Stand::new(device, 0, false));
+                self.set(Bench::System(Stand::new(device, 0, false)));
                 text(format!(in alloc; "{len} bytes"))
             }
             Err(Disk) => told(alloc, Disk),
@@ -168,7 +188,7 @@ fn device_of(alloc: Global, bytes: &[u8]) -> Result<MemoryDevice, AllocError> {
 }
 
 /// What a stop leaves of each part of a write, by the numbers of a line.
-fn parts_of(line: &Line<'_>) -> [Part; 8] {
+pub(crate) fn parts_of(line: &Line<'_>) -> [Part; 8] {
     line.numbers.map(|choice| match choice {
         1 => Part::New,
         2 => Part::Garbage,

@@ -2,6 +2,7 @@
 
 use crate::draft::{BYTE, Block, Draft, SIZE, block_with};
 use crate::{Answer, done, text};
+use geos_kernel::Kernel;
 use std::alloc::{AllocError, Global};
 use std::fmt::Write;
 use std::mem;
@@ -23,6 +24,8 @@ pub(crate) enum Stand<D: Device + Drop> {
     Device(FaultDevice<D>),
     /// A file is open on the device.
     File(VmFile<FaultDevice<D>>),
+    /// There is a kernel on the device.
+    Kernel(Kernel<FaultDevice<D>>),
 }
 
 impl<D: Device + Drop> Stand<D> {
@@ -37,6 +40,7 @@ impl<D: Device + Drop> Stand<D> {
             Stand::Nothing => None,
             Stand::Device(device) => Some(device),
             Stand::File(file) => Some(file.into_device()),
+            Stand::Kernel(kernel) => Some(kernel.close()),
         }
     }
 
@@ -67,6 +71,11 @@ impl<D: Device + Drop> Stand<D> {
         }
     }
 
+    /// Puts this in the place of what there was.
+    pub(crate) fn put(&mut self, stand: Stand<D>) {
+        *self = stand;
+    }
+
     /// Makes a call on the device, and keeps what is there then.
     fn on_device(
         &mut self,
@@ -75,57 +84,30 @@ impl<D: Device + Drop> Stand<D> {
         mut device: FaultDevice<D>,
     ) -> Result<Answer, AllocError> {
         match line.word {
-            "create" => self.create(alloc, device, line.numbers[0]),
-            "open" => self.keep(alloc, VmFile::open(alloc, device)),
+            "create" => Ok(self.keep(created(alloc, device, line.numbers[0])?)),
+            "open" => Ok(self.keep(opened(alloc, device)?)),
             "go_on" => {
-                *self = Stand::new(device.into_inner(), 0, false);
+                self.put(Stand::new(device.into_inner(), 0, false));
                 Ok(Answer::Done)
             }
             _ => {
                 let answer = on_bytes(alloc, line, &mut device);
-                *self = Stand::Device(device);
+                self.put(Stand::Device(device));
                 answer
             }
         }
     }
 
-    /// Makes a file with areas of this size.
-    fn create(
-        &mut self,
-        alloc: Global,
-        device: FaultDevice<D>,
-        area: u32,
-    ) -> Result<Answer, AllocError> {
-        if area < 512
-            || area > 16_777_216
-            || area % 512 != 0
-            || device.len() < device_length(area)
-        {
-            *self = Stand::Device(device);
-            return Ok(Answer::NotAsked("no such area"));
-        }
-        match VmFile::create(alloc, device, area) {
-            Ok(file) => self.keep(alloc, Ok(file)),
-            Err((device, CreateError::Disk)) => self.keep(alloc, Err((device, OpenError::Disk))),
-            Err((_, CreateError::Memory)) => Err(AllocError),
-        }
-    }
-
     /// Keeps a file that was made or opened, or the device where it was not.
-    fn keep(
-        &mut self,
-        alloc: Global,
-        outcome: Result<VmFile<FaultDevice<D>>, (FaultDevice<D>, OpenError)>,
-    ) -> Result<Answer, AllocError> {
+    pub(crate) fn keep(&mut self, outcome: Opened<D>) -> Answer {
         match outcome {
             Ok(file) => {
-                *self = Stand::File(file);
-                Ok(Answer::Done)
+                self.put(Stand::File(file));
+                Answer::Done
             }
-            Err((_, OpenError::Memory)) => Err(AllocError),
-            Err((device, why)) => {
-                *self = Stand::Device(device);
-                told(alloc, why)
+            Err((device, answer)) => {
+                self.put(Stand::Device(device));
+                answer
             }
         }
     }
@@ -137,8 +119,39 @@ impl<D: Device + Drop> Stand<D> {
         };
         let mut bytes = vec![in alloc; 0u8; device.len() as usize]?;
         let outcome = device.read_at(0, &mut bytes);
-        *self = Stand::Device(device);
+        self.put(Stand::Device(device));
         Ok(outcome.ok().map(|()| bytes))
+    }
+}
+
+/// A file that was made or opened, or its device with the answer why it was not.
+pub(crate) type Opened<D> = Result<VmFile<FaultDevice<D>>, (FaultDevice<D>, Answer)>;
+
+/// Makes a file with areas of this size.
+pub(crate) fn created<D: Device + Drop>(
+    alloc: Global,
+    device: FaultDevice<D>,
+    area: u32,
+) -> Result<Opened<D>, AllocError> {
+    if area < 512 || area > 16_777_216 || area % 512 != 0 || device.len() < device_length(area) {
+        return Ok(Err((device, Answer::NotAsked("no such area"))));
+    }
+    match VmFile::create(alloc, device, area) {
+        Ok(file) => Ok(Ok(file)),
+        Err((_, CreateError::Memory)) => Err(AllocError),
+        Err((device, why)) => Ok(Err((device, told(alloc, why)?))),
+    }
+}
+
+/// Opens the file that a device holds.
+pub(crate) fn opened<D: Device + Drop>(
+    alloc: Global,
+    device: FaultDevice<D>,
+) -> Result<Opened<D>, AllocError> {
+    match VmFile::open(alloc, device) {
+        Ok(file) => Ok(Ok(file)),
+        Err((_, OpenError::Memory)) => Err(AllocError),
+        Err((device, why)) => Ok(Err((device, told(alloc, why)?))),
     }
 }
 

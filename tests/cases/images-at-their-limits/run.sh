@@ -1,3 +1,3 @@
-# Images that the trial of routines reads, writes again, checks and runs.
-trial=$("$top/build" routine_trials) || exit
-"$trial"
+# Images that the trial reads, writes again, checks and runs.
+trials=$("$top/build" trials) || exit
+"$trials"

@@ -23,6 +23,7 @@ awk '
         print "end"
     }
     BEGIN {
+        print "on_routines"
         none = "00000000"
         open = "ffffffffffffffffffffffffffffffff" none "ff000000ff000000ff000000ff0000000000"
         header(2)

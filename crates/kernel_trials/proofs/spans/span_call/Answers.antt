@@ -1,5 +1,0 @@
-use Rattle.kernel_trials.proofs.spans.span_call.Goals as goal
-use Rattle.std.proofs.Common.{refl}
-
-pub store-requires : goal.store-requires
-store-requires g c = c.in-Ok.ensures.writable (c.if-may_change-2.ensures refl)
