@@ -1,7 +1,5 @@
 //! How often the lines of a text ran.
 
-ghost use Rattle.std.specs.Prelude.{◌<◌, length};
-
 use crate::testing::Testable;
 use geos_image::{Image, ReadError};
 use geos_text::{first_line, put_numbered};

@@ -1,7 +1,5 @@
 //! How often instructions ran.
 
-ghost use Rattle.std.specs.Prelude.{◌<◌};
-
 use geos_image::MOST_INSTRS;
 use geos_machine::Trace;
 use std::alloc::{AllocError, Global};
