@@ -401,10 +401,9 @@ With --new-block, a block with the user ID UID and a chunk in it are made for th
 group and an item in it are made. With --new-chunk, only a chunk in the block H is made. With --new-item, only
 an item in the group G is made.
 H and C are printed then, as `geos get` takes them. All is one commit.
-With --array, the chunk has to be an array. Each row of IN becomes an element, in place of all elements: with
---fields, a number for each 1 or 2, the bytes of the number, and a text for 8t, of at most 8 bytes. Without
---fields, a row is the bytes of an element in hexadecimal. docs/CSV.md describes the rows. If a row is wrong,
-the fault is `IN:ROW: ..`, and the file is unchanged.
+With --array, the chunk has to be an array, and the rows of IN replace its elements. With --fields 2,8t, a row is
+a number of two bytes and a text of at most 8 bytes. Without --fields, a row is the bytes of an element in
+hexadecimal. docs/CSV.md describes the rows. If a row is wrong, the fault is `IN:ROW: ..`, and the file is unchanged.
 `refused N` is a refusal, as in docs/INSTRUCTIONS.md: 1 no such block, 2 no such chunk, 4 no room in the
 region, 6 too long, 11 the disk fails, 15 a group without --item. Then the file is unchanged; only after 11
 it may have the new bytes.
