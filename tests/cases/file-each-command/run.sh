@@ -137,8 +137,8 @@ disk_full() {
     while read -r words; do
         rm -f new
         cp "$source" file.vm
-        (trap '' XFSZ && ulimit -f 1 && "$program" $words <bytes 2>&1)
-        echo "status $?"
+        # The output goes into a pipe, which has no limit.
+        (trap '' XFSZ && ulimit -f 1 && "$program" $words <bytes 2>&1; echo "status $?") | cat
         cmp -s "$source" file.vm || echo "$words: the file has changed"
     done <"$1"
 }

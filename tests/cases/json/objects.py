@@ -12,7 +12,7 @@ import shlex
 import subprocess
 import sys
 
-TEXT, NUMBER, MAYBE_TEXT, MAYBE_NUMBER = "text", "number", "text?", "number?"
+TEXT, NUMBER, MAYBE_TEXT, MAYBE_NUMBER, ROWS = "text", "number", "text?", "number?", "rows"
 FINDING = {
     "file": TEXT, "line": MAYBE_NUMBER, "column": MAYBE_NUMBER, "rule": MAYBE_TEXT, "routine": MAYBE_TEXT, "pc": MAYBE_NUMBER,
     "register": MAYBE_TEXT, "message": TEXT, "cause_line": MAYBE_NUMBER, "cure": MAYBE_TEXT,
@@ -36,6 +36,7 @@ MEMBERS = {
     "group": BLOCK,
     "chunk": {**CHUNK, "block": NUMBER},
     "item": {**CHUNK, "group": NUMBER},
+    "array": {"rows": ROWS},
     "page": {"file": TEXT, "shows": TEXT},
     "fault": {"message": TEXT},
     "end": {"status": NUMBER},
@@ -49,6 +50,8 @@ def is_number(value: object) -> bool:
 def fits(value: object, wanted: object) -> bool:
     if isinstance(wanted, int):
         return isinstance(value, list) and len(value) == wanted and all(map(is_number, value))
+    if wanted == ROWS:
+        return all(isinstance(field, str) or is_number(field) for row in value for field in row)
     if value is None:
         return str(wanted).endswith("?")
     return is_number(value) if str(wanted).startswith("number") else isinstance(value, str)

@@ -8,6 +8,8 @@ trap 'rm -rf "$folder"' EXIT
 cp "$here"/*.asm "$here"/*.script "$folder"
 cd "$folder" || exit 1
 cp apart.asm "$(printf 'a"b\\c\007.asm')"
+# An array of two elements of three bytes.
+printf '\002\000\003\000\000\000\010\000\007\000x\010\001y' >array
 python3 -B "$here/objects.py" "$program" "$top/docs/JSON.md" <"$here/commands"
 echo "excluded:"
 for words in "call add.asm add 1 2 --hex" "call add.asm add 1 2 --signed" "call add.asm add 1 2 --text" "call add.asm add 1 2 --label" \
