@@ -38,14 +38,15 @@ if (objects[0].shows !== "faulty" && code !== drawn) differs.push(`${drawn} inst
 const lost = [...document.querySelectorAll('a[href^="#"]')].filter((link) => !document.getElementById((link.getAttribute("href")).slice(1)));
 if (lost.length) differs.push(`${lost.length} links lead nowhere`);
 
-// The key N goes from finding to finding.
+// The key N goes from finding to finding, and from the last one to the first.
 const times = [];
-for (let n = 0; n < Math.min(shown_findings.length, 20); n++) {
+const presses = shown_findings.length ? Math.max(10, Math.min(shown_findings.length, 20)) : 0;
+for (let n = 0; n < presses; n++) {
   const from = performance.now();
   document.dispatchEvent(new KeyboardEvent("keydown", { key: "n", bubbles: true }));
   document.body.getBoundingClientRect();
   times.push(performance.now() - from);
-  if (document.activeElement !== shown_findings[n]) differs.push("key N");
+  if (document.activeElement !== shown_findings[n % shown_findings.length]) differs.push("key N");
 }
 // The processor may be busy, so the quickest key counts.
 const quick = (!times.length || Math.min(...times) < 50) ? "quick" : "slow";
