@@ -275,8 +275,18 @@ fn is_draft(text: &[u8]) -> bool {
     false
 }
 
-/// A draft, in which a `?` stands for the budget of a routine, with the least budgets; or with budgets of 0 if the text has no least ones. Any
-/// other text stays as it is.
+/// The budgets that are found for the first routines, and for the others the greatest one.
+fn found_budgets(alloc: Global, text: &[u8]) -> Result<Vec<u32>, AllocError> {
+    let mut budgets = first_budgets(alloc, text);
+    for _ in budgets.len()..usize::from(MOST_ROUTINES) {
+        budgets.push(u32::MAX)?;
+    }
+    Ok(budgets)
+}
+
+/// A draft, in which a `?` stands for the budget of a routine, with the least budgets. If the text has no least ones, the routines up to the
+/// first one without a least budget have theirs, and the others the greatest budget, so that the fault of that one is the first. Any other
+/// text stays as it is.
 pub fn completed(alloc: Global, text: Vec<u8>) -> Result<Vec<u8>, AllocError>
     ensures { IfOk result (λ new. (new.items ≡ text.items) ⊎ HasOtherBudgets text.items new.items) }
 {
@@ -285,6 +295,6 @@ pub fn completed(alloc: Global, text: Vec<u8>) -> Result<Vec<u8>, AllocError>
     }
     match find_budgets(alloc, &text) {
         Ok(new) => Ok(new.text),
-        Err(_) => with_budgets(alloc, &text, &[]),
+        Err(_) => with_budgets(alloc, &text, &found_budgets(alloc, &text)?),
     }
 }

@@ -63,3 +63,19 @@ printf 'routine f public budget ?\n ADD w0 w0\n RET\nroutine g budget ?\n RET\n'
 said check faulty.asm
 said explain faulty.asm | cut -d: -f1
 said budget faulty.asm --diagnostics | cut -d: -f1-2
+echo "two calls that pass the most steps together:"
+cat >twice.asm <<'E2'
+routine big public budget ?
+        SETK k0 30000
+a:      SETK k1 30000
+b:      MULI w0 w0 3
+        ADD w0 w0 w1
+        LOOP k1 b
+        LOOP k0 a
+        RET
+routine two public budget ?
+        CALL big
+        CALL big
+        RET
+E2
+said explain twice.asm
