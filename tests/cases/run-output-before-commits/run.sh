@@ -1,6 +1,7 @@
 # What calls have printed is out before a commit is made: a program that is killed behind it, in a call that runs for long, has printed it.
 export LC_ALL=C
-folder=$(mktemp -d)
+# In memory, if there is such a folder: a sync to a busy disk may take minutes.
+folder=$(mktemp -d -p /dev/shm 2>/dev/null || mktemp -d)
 trap 'rm -rf "$folder"' EXIT
 cd "$folder" || exit 1
 cat >text.asm <<'END'

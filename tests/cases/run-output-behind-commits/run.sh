@@ -1,7 +1,8 @@
 # What a command that may commit has printed is out before the next one runs: a program that is killed behind it, in a call that runs for
 # long, has printed it, and the file has what it kept.
 export LC_ALL=C
-folder=$(mktemp -d)
+# In memory, if there is such a folder: a sync to a busy disk may take minutes.
+folder=$(mktemp -d -p /dev/shm 2>/dev/null || mktemp -d)
 trap 'rm -rf "$folder"' EXIT
 cd "$folder" || exit 1
 {
