@@ -11,7 +11,7 @@ use geos_infer::{FindError, find_image};
 use geos_verify::{Checked, Reject, check};
 use std::alloc::{AllocError, Global};
 use tkv_checks::first_other;
-use tkv_places::{Declared, Placed, check_routine, declare, place_routine};
+use tkv_places::{Declared, Placed, SourceTest, check_routine, declare, place_routine};
 use tkv_syntax::{Fault, ItemKind, Name, Why, name_at, parse_source};
 
 /// What a source is compiled to.
@@ -141,6 +141,7 @@ fn checked_alone(
 /// The routines of a source, coded.
 fn program_of(alloc: Global, text: &[u8]) -> Result<Program, Fault> {
     let mut declared = declare(alloc, parse_source(alloc, text)?)?;
+    declared.tests(alloc)?;
     let mut program = Program {
         routines: Vec::new(alloc),
         heads: Vec::new(alloc),
@@ -278,6 +279,11 @@ fn within(text: &[u8], fault: Fault) -> Fault
         at: fault.at.min(most),
         ..fault
     }
+}
+
+/// The tests of a source that is compiled, in order, as scripts of its image. Their lines have no fault.
+pub fn tests_of(alloc: Global, text: &[u8]) -> Result<Vec<SourceTest>, Fault> {
+    declare(alloc, parse_source(alloc, text)?)?.tests(alloc)
 }
 
 /// The image of a source, which the verifier accepts. Rows and numbers of steps are found as for an assembly text, and the verifier decides

@@ -11,8 +11,9 @@ mod sentence;
 mod skeleton;
 mod tidy;
 
-pub use compiler::{Compiled, compile};
+pub use compiler::{Compiled, compile, tests_of};
 pub use lines::lines_of;
 pub use naming::put_uncalled;
 pub use sentence::put_sentence;
+pub use tkv_places::SourceTest;
 pub use tkv_syntax::{Fault, Place, Why, place_of};

@@ -9,7 +9,7 @@ use tkv_syntax::{Fault, LIBRARY, Name, Why, Word, name_at, place_of};
 /// The sentence of each fault, in the order of `Why`. `@` stands for the name at the fault's offset, `~` for the name at its other offset,
 /// `^` for the line of that, `#` for the number, `$` for the word, and `%` for what a call may have meant, or how it is written, or for the names
 /// that hold words.
-static SENTENCES: [(Why, &str); 73] = [
+static SENTENCES: [(Why, &str); 75] = [
     (Why::Memory, "memory is refused"),
     (Why::TooLong, "a source has at most 1,048,576 bytes"),
     (
@@ -56,7 +56,7 @@ static SENTENCES: [(Why, &str); 73] = [
     ),
     (
         Why::ExpectedFn,
-        "expected a declaration: fn, pub fn, const, struct or use; statements are between the { and } of a routine",
+        "expected a declaration: fn, pub fn, const, struct, use or test; statements are between the { and } of a routine",
     ),
     (
         Why::ExpectedUse,
@@ -262,6 +262,14 @@ static SENTENCES: [(Why, &str); 73] = [
     (
         Why::NoRoutine,
         "a program has at least one public routine: write pub before its fn",
+    ),
+    (
+        Why::Untestable,
+        "@ is no public routine of this source: a test calls routines with pub before their fn",
+    ),
+    (
+        Why::PastBound,
+        "~ is at most #, as line ^ says: write a lower number, or raise the bound",
     ),
     (
         Why::Refused,

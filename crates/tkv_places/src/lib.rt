@@ -21,10 +21,12 @@ mod placer;
 mod routine;
 mod state;
 mod statements;
+mod tested;
 mod tests_of;
 mod uncalled;
 
 pub use declarations::{Declared, declare};
 pub use placed::{Placed, PlacedKind};
 pub use routine::{PlacedRoutine, place_routine};
+pub use tested::SourceTest;
 pub use uncalled::check_routine;

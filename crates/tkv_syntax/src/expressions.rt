@@ -272,6 +272,8 @@ impl Parser {
     fn block_test(&mut self) -> (u32, u32) {
         if self.is(Word::Set) {
             self.refuse_word(Word::Same);
+        } else if self.is(Word::Gives) {
+            self.refuse_word(Word::AtLeast);
         }
         let item = self.retract(Why::ExpectedCondition);
         let call = matches!(item.kind, ItemKind::Call) && item.a == 2 && item.b == 0;

@@ -148,6 +148,10 @@ pub enum Why {
     NoEnd,
     /// The program has no public routine.
     NoRoutine,
+    /// A test calls something that is no public routine of the source.
+    Untestable,
+    /// An argument of a test is above the bound of the parameter at `other`; `number` is the bound.
+    PastBound,
     /// The verifier refuses an instruction of this place; `number` is its rule.
     Refused,
     /// No bound on the steps of the routine is found.

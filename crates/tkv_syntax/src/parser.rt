@@ -3,6 +3,7 @@
 use crate::fault::{Fault, Why};
 use crate::item::{Item, ItemKind, NONE, NUMBERS};
 use crate::library::LIBRARY;
+use crate::tests::TestPart;
 use crate::token::{Token, next_token};
 use crate::words::{Word, byte_at, is_named};
 use std::alloc::Global;
@@ -56,6 +57,7 @@ pub(crate) struct Parser {
     /// The word that is next.
     pub token: Token,
     pub items: Vec<Item>,
+    pub tests: Vec<TestPart>,
     pub pending: Vec<Pending>,
     /// The items of the routine's declaration, and of its body.
     pub routine: usize,
@@ -360,6 +362,8 @@ impl Parser {
             self.structure();
         } else if self.takes(Word::Use) {
             self.library();
+        } else if self.is_test() {
+            self.test_block();
         } else {
             self.header();
         }
@@ -409,6 +413,8 @@ pub struct Source {
     /// How many bytes the source has without the library.
     pub own: u32,
     pub items: Vec<Item>,
+    /// Its tests, part after part.
+    pub tests: Vec<TestPart>,
 }
 
 /// The named program of a source. The fault is the first one that reading finds, and its place is one of the source, or its end.
@@ -422,6 +428,7 @@ pub fn parse_source(alloc: Global, text: &[u8]) -> Result<Source, Fault> {
         text: owned,
         token: Token::new(Word::End, 0, 0),
         items: Vec::new(alloc),
+        tests: Vec::new(alloc),
         pending: Vec::new(alloc),
         routine: 0,
         body: 0,
@@ -437,6 +444,7 @@ pub fn parse_source(alloc: Global, text: &[u8]) -> Result<Source, Fault> {
             text: parser.text,
             own: text.len() as u32,
             items: parser.items,
+            tests: parser.tests,
         }),
     }
 }

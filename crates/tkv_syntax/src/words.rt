@@ -36,6 +36,7 @@ pub enum Word {
     WhyWord,
     To,
     Arrow,
+    Gives,
     Same,
     Unlike,
     AtMost,
@@ -70,7 +71,7 @@ pub enum Word {
 }
 
 /// Each word with its text, or with what messages call it. The order is that of `Word`; longer signs come first.
-static WORDS: [(Word, &str); 60] = [
+static WORDS: [(Word, &str); 61] = [
     (Word::End, "the end"),
     (Word::Named, "a name"),
     (Word::Number, "a number"),
@@ -101,6 +102,7 @@ static WORDS: [(Word, &str); 60] = [
     (Word::WhyWord, "why"),
     (Word::To, ".."),
     (Word::Arrow, "->"),
+    (Word::Gives, "=>"),
     (Word::Same, "=="),
     (Word::Unlike, "!="),
     (Word::AtMost, "<="),
