@@ -10,6 +10,7 @@ mod library;
 mod parser;
 mod place;
 mod statements;
+mod tests;
 mod token;
 mod words;
 
@@ -18,4 +19,6 @@ pub use item::{Item, ItemKind, NONE, NUMBERS};
 pub use library::LIBRARY;
 pub use parser::{MOST_BYTES, Source, parse_source};
 pub use place::{Place, place_of};
+pub use tests::{TestKind, TestPart};
+pub use token::{Token, next_token};
 pub use words::{Name, Word, name_at};

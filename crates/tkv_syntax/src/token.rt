@@ -5,7 +5,7 @@ use crate::words::{Word, byte_at, is_letter, word_at};
 
 /// A word of a source.
 #[derive(Clone, Copy)]
-pub(crate) struct Token {
+pub struct Token {
     pub word: Word,
     /// Where it begins.
     pub at: u32,
@@ -189,8 +189,8 @@ fn spelled(text: &[u8], at: u32) -> Result<Token, Fault> {
     Ok(Token::new(word, at, end))
 }
 
-/// The first word from a place on.
-pub(crate) fn next_token(text: &[u8], from: u32) -> Result<Token, Fault> {
+/// The first word from a place on, after blanks and comments. Of a string it is the first quote.
+pub fn next_token(text: &[u8], from: u32) -> Result<Token, Fault> {
     let at = word_start(text, from);
     let byte = letter(text, at);
     if at as usize >= text.len() {
