@@ -9,7 +9,7 @@ use crate::progress::{ProgressLine, is_shown};
 use geos_cli::{Counted, ScriptFault, Unwatched};
 use geos_kernel::Kernel;
 use geos_shell::{Named, tell};
-use script_tests::{Compared, TestScript, run_comparing};
+use script_tests::{Compared, Part, TestScript, run_comparing};
 use std::io::Write;
 use vm_file::Device;
 
@@ -50,6 +50,7 @@ pub(crate) fn compare_script_on<'a, D: Device + Drop>(
         image: script.image,
         bytes: script.bytes,
         names: manner.names,
+        part: Part::WHOLE,
     };
     let mut out = output(rt)?;
     let compared = compare_in(rt, manner, &test, kernel, &mut out)?;

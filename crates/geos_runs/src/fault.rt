@@ -29,6 +29,9 @@ pub enum RunFault<'a> {
     /// So many lines of a script printed what they say, and so many something else.
     #[error("{0} passed, {1} failed")]
     Failed(usize, usize),
+    /// A test is required, and there is none.
+    #[error("no tests: give a SCRIPT, or write a test into a source")]
+    NoTests,
     /// A call of the kernel on a chunk was refused, or a block that a routine borrows.
     #[error("refused {0}")]
     NotDone(u16),

@@ -30,7 +30,7 @@ pub use manner::Manner;
 pub use paging::Shown;
 pub use row_reader::RowFault;
 pub use running::{run, session};
-pub use testing::{Testable, test};
+pub use testing::{OwnTest, Testable, test};
 pub use tracing::{Traceable, trace};
 
 /// The most bytes that are read of a script: one more than a script may have.

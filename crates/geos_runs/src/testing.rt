@@ -13,7 +13,7 @@ use geos_scripts::NameUse;
 use geos_shell::{
     Named, Reason, StreamFault, TestRequest, are_one_file_read, print, print_lines, read, write,
 };
-use script_tests::{Coverage, TestScript, Tested, test_script};
+use script_tests::{Coverage, Part, TestScript, Tested, test_script};
 use sentence_text::Text;
 use std::alloc::Global;
 use vm_file::{Device, Disk, MemoryDevice, OpenError, VmFile};
@@ -27,9 +27,19 @@ pub struct Testable<'t> {
     pub text: &'t [u8],
     /// For each pc the number of its line in the text, if there is one.
     pub lines: Option<&'t [u32]>,
+    /// The tests of the source.
+    pub tests: &'t [OwnTest<'t>],
 }
 
-/// The bytes of a script or a VM file.
+/// A test of a source.
+#[derive(Clone, Copy)]
+pub struct OwnTest<'t> {
+    /// Its calls, as the lines of a script.
+    pub script: &'t [u8],
+    pub part: Part<'t>,
+}
+
+/// The bytes of a file.
 #[derive(Drop)]
 struct Contents<'a> {
     path: &'a str,
@@ -81,7 +91,10 @@ impl<'a> Contents<'a> {
 struct Subject<'t, 'a> {
     /// The bytes of the image that it is for.
     image: &'t [u8],
-    script: Contents<'a>,
+    /// The path of the script, and its bytes.
+    path: &'a str,
+    script: &'t [u8],
+    part: Part<'t>,
     /// How often instructions ran in the scripts before it.
     coverage: Coverage,
 }
@@ -96,19 +109,22 @@ fn test_on<'a, D: Device + Drop>(
 {
     let Subject {
         image,
+        path,
         script,
+        part,
         coverage,
     } = test;
     let alloc = rt.alloc();
-    let path = Named(script.path);
+    let path = Named(path);
     let Ok(path) = format!(in alloc; "{path}") else {
         return Err(RunFault::Session(ScriptFault::Memory));
     };
     let script = TestScript {
         path: &path,
         image,
-        bytes: &script.bytes,
+        bytes: script,
         names: NameUse::Allowed,
+        part,
     };
     Ok(test_script(alloc, &script, coverage, kernel)?)
 }
@@ -235,33 +251,59 @@ impl Results {
         self.is_bad = self.is_bad || is_bad;
         self.coverage = coverage;
     }
+
+    /// Runs another script, on a copy of a VM file or on a new one, and prints a line for each line that failed.
+    fn run<'a>(
+        &mut self,
+        rt: &HostRuntime,
+        test: Subject<'_, 'a>,
+        copied: &Option<Contents<'a>>,
+        region: u32,
+    ) -> Result<(), RunFault<'a>>
+        requires { IsRegion region }
+    {
+        let tested = test_one(rt, test, copied, region)?;
+        print_lines(rt, &tested.told)?;
+        self.add(tested);
+        Ok(())
+    }
 }
 
-/// Runs test scripts one after another, and prints a line for each line that failed.
+/// Runs the tests of a source and test scripts one after another, and prints a line for each line that failed.
 fn test_all<'a>(
     rt: &HostRuntime,
-    image: &[u8],
+    testable: &Testable<'_>,
     request: &TestRequest<'a>,
 ) -> Result<Results, RunFault<'a>>
     requires { IsRegion request.now.region }
 {
+    let image = testable.image;
     let copied = match request.file {
         Some(path) => Some(Contents::of_file(rt, path)?),
         None => None,
     };
     let mut results = Results::new(rt.alloc(), request.coverage)?;
+    for test in testable.tests {
+        let test = Subject {
+            image,
+            path: request.image,
+            script: test.script,
+            part: test.part,
+            coverage: results.coverage.take(rt.alloc()),
+        };
+        results.run(rt, test, &copied, request.region)?;
+    }
     for path in &request.scripts {
         keep_script(rt, request.junit, *path)?;
         let script = Contents::of_script(rt, *path)?;
-        let coverage = results.coverage.take(rt.alloc());
         let test = Subject {
             image,
-            script,
-            coverage,
+            path: *path,
+            script: &script.bytes,
+            part: Part::WHOLE,
+            coverage: results.coverage.take(rt.alloc()),
         };
-        let tested = test_one(rt, test, &copied, request.region)?;
-        print_lines(rt, &tested.told)?;
-        results.add(tested);
+        results.run(rt, test, &copied, request.region)?;
     }
     Ok(results)
 }
@@ -278,11 +320,11 @@ fn print_coverage<'a>(
     }
 }
 
-/// Runs test scripts one after another, each on a new VM file in memory, or on a copy of a VM file. Prints a line for each line that failed;
+/// Runs the tests of a source and then test scripts, each on a new VM file in memory, or on a copy of a VM file. Prints a line for each line that failed;
 /// then, if required, how often each line of the text ran; and then how many passed and failed. Writes JUnit XML if a path is given for it.
 /// Returns whether none failed, and none is bad.
 ///
-/// `StreamFault::Write` if the path leads to one of the scripts.
+/// `RunFault::NoTests` if there is neither a test nor a script, and `StreamFault::Write` if the path leads to one of the scripts.
 pub fn test<'a>(
     rt: &HostRuntime,
     testable: &Testable<'_>,
@@ -290,13 +332,16 @@ pub fn test<'a>(
 ) -> Result<bool, RunFault<'a>>
     requires { IsRegion request.now.region }
 {
+    if testable.tests.is_empty() && request.scripts.is_empty() {
+        return Err(RunFault::NoTests);
+    }
     let Results {
         passed,
         failed,
         is_bad,
         suites,
         coverage,
-    } = test_all(rt, testable.image, request)?;
+    } = test_all(rt, testable, request)?;
     if request.coverage {
         print_coverage(rt, testable, &coverage)?;
     }

@@ -7,7 +7,7 @@ ghost use Rattle.vm_blocks.specs.Listed.{NoneLocked};
 use crate::lines::TestLine;
 use crate::report::Report;
 use crate::running::PLAIN;
-use crate::script::{Ready, TestScript};
+use crate::script::{Part, Ready, TestScript};
 use geos_cli::{
     Counted, EarlyEnd, Follow, Form, Mode, Progress, RefusedCommand, RunOptions, ScriptFault,
 };
@@ -78,7 +78,7 @@ impl<'a, F: Follow + Drop> Run<'a, F> {
             names: Vec::new(alloc),
             first: first_commit(checked.image().points()),
             behind: false,
-            report: Report::new(alloc, path),
+            report: Report::new(alloc, path, Part::WHOLE),
             passed: 0,
             failed: 0,
         }

@@ -8,7 +8,7 @@
 //! | printed | whether a line printed what it is to print |
 //! | report | what is printed of a test script |
 //! | running | `test_script`: runs a test script, and prints nothing |
-//! | script | `TestScript` |
+//! | script | `TestScript`, and `Part` of a source |
 //! | suite | attributes of JUnit XML |
 #![tactic(auto)]
 
@@ -25,4 +25,4 @@ pub use comparing::{Compared, run_comparing};
 pub use coverage::Coverage;
 pub use lines::plain_script;
 pub use running::{Tested, test_script};
-pub use script::TestScript;
+pub use script::{Part, TestScript};

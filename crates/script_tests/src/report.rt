@@ -5,6 +5,7 @@ ghost use Rattle.script_tests.specs.Expected.{Passes};
 
 use crate::lines::TestLine;
 use crate::printed::is_printed;
+use crate::script::Part;
 use crate::suite::put_attribute;
 use geos_text::{first_line, is_blank};
 use sentence_text::Text;
@@ -15,6 +16,8 @@ use std::alloc::Global;
 pub(crate) struct Report<'p> {
     /// The path of the script, as it is printed.
     path: &'p str,
+    /// What the script is of the file with the path.
+    part: Part<'p>,
     /// A line for each line that failed.
     pub(crate) told: Text,
     /// A suite of JUnit XML, with a case for each line with `=>`, and for each bad line.
@@ -42,14 +45,27 @@ fn put_words(out: &mut Text, before: &str, text: &[u8]) {
     }
 }
 
+/// Begins a suite: its name is the path, and after it the name of a part.
+fn put_suite(suite: &mut Text, path: &str, name: &[u8]) {
+    let mut title = Text::new(*suite.bytes.allocator());
+    title.put(path);
+    if !name.is_empty() {
+        title.put(": ");
+        title.put_bytes(name);
+    }
+    put_attribute(suite, "<testsuite name=\"", &title.bytes);
+    suite.put(">\n");
+    suite.failed = suite.failed || title.failed;
+}
+
 impl<'p> Report<'p> {
     /// No line has run.
-    pub(crate) fn new(alloc: Global, path: &'p str) -> Report<'p> {
+    pub(crate) fn new(alloc: Global, path: &'p str, part: Part<'p>) -> Report<'p> {
         let mut suite = Text::new(alloc);
-        put_attribute(&mut suite, "<testsuite name=\"", path.as_bytes());
-        suite.put(">\n");
+        put_suite(&mut suite, path, part.name);
         Report {
             path,
+            part,
             told: Text::new(alloc),
             suite,
             is_bad: false,
@@ -60,7 +76,18 @@ impl<'p> Report<'p> {
     fn put_place(&mut self, number: usize) {
         let path = self.path;
         self.told.put(path);
-        self.told.put_number(":", number as u64);
+        self.told.put_number(":", self.part.number(number));
+    }
+
+    /// Ends the line on a line, with the name of the part.
+    fn end_line(&mut self) {
+        let name = self.part.name;
+        if !name.is_empty() {
+            self.told.put(" in test \"");
+            self.told.put_bytes(name);
+            self.told.put("\"");
+        }
+        self.told.put("\n");
     }
 
     /// Ends a case, whose name begins so, and which has failed if there is a message.
@@ -79,7 +106,7 @@ impl<'p> Report<'p> {
     /// Writes the case of a line.
     fn put_case(&mut self, line: &TestLine, message: Option<&[u8]>) {
         self.suite
-            .put_number("<testcase name=\"", line.number as u64);
+            .put_number("<testcase name=\"", self.part.number(line.number));
         self.end_case(": ", line.command.trim_ascii(), message)
     }
 
@@ -101,7 +128,7 @@ impl<'p> Report<'p> {
         self.put_place(line.number);
         self.told.put(": ");
         self.told.put_bytes(&message.bytes);
-        self.told.put("\n");
+        self.end_line();
         self.told.failed = self.told.failed || message.failed;
         false
     }

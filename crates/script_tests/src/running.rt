@@ -200,7 +200,7 @@ pub fn test_script<D: Device + Drop>(
         lines,
         bad,
     } = script.read(alloc)?;
-    let mut report = Report::new(alloc, script.path);
+    let mut report = Report::new(alloc, script.path, script.part);
     if bad.first.is_some() {
         report.refuse(&bad.told, &lines);
         return finished(report, &lines, 0, coverage);

@@ -20,6 +20,33 @@ pub struct TestScript<'t> {
     pub bytes: &'t [u8],
     /// Whether its lines may write names for words that calls output.
     pub names: NameUse,
+    /// What it is of the file with the path, if it is not all of it.
+    pub part: Part<'t>,
+}
+
+/// A test of a source: a script that has only its calls.
+#[derive(Clone, Copy)]
+pub struct Part<'t> {
+    /// Its name; empty for a script that is a whole file.
+    pub name: &'t [u8],
+    /// The number that each line has in the file; of others, lines are counted.
+    pub lines: &'t [u32],
+}
+
+impl Part<'_> {
+    /// A script that is a whole file.
+    pub const WHOLE: Part<'static> = Part {
+        name: &[],
+        lines: &[],
+    };
+
+    /// The number in the file of the line with this number, counted from 1.
+    pub(crate) fn number(&self, line: usize) -> u64 {
+        match self.lines.get(line.saturating_sub(1)) {
+            Some(number) => u64::from(*number),
+            None => line as u64,
+        }
+    }
 }
 
 /// A script that was read, and its image, checked.
