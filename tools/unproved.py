@@ -37,7 +37,7 @@ OWN_LINE = re.compile(rb"(interpreter|checked|races): |run=|rt: ")
 # Names that `rt try` keeps for itself in the folder in which the program runs.
 TAKEN = ("program", "stdin", "stdout", "stderr", "given")
 # The options of `geos` with a word after them.
-WITH_WORD = ("--break", "--color", "--file", "--from", "--grant", "--html", "--junit", "--most-blocks", "--most-bytes", "--most-steps", "--only", "--region", "--script", "--steps", "--watch", "--when")
+WITH_WORD = ("--break", "--color", "--file", "--from", "--grant", "--html", "--junit", "--language", "--most-blocks", "--most-bytes", "--most-steps", "--only", "--region", "--script", "--steps", "--watch", "--when")
 # The options of `call`, `explain`, `test` and `trace` that name a VM file, or a file that is written.
 NEEDS_PROOF = ("--file", "--html", "--junit")
 # The options that may stand before the command.

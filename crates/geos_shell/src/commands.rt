@@ -87,6 +87,7 @@ call Checks a text or an image, and runs one of its routines, or a script
 -text Prints the words of a call as bytes of a text
 -label Prints each line after its call
 -json Prints only JSON objects, one a line, as docs/JSON.md lists them
+:language=LANGUAGE The language of a text: `tkv` or `asm`; without it, `tkv` if the path ends with .tkv
 
 IN is an image if it begins as one does, and otherwise a text. Nothing runs unless the text has no fault and
 the verifier accepts the image. `geos help asm` lists the faults of a text, `geos help check` the rules, and
@@ -137,6 +138,7 @@ trace Runs one routine, and prints each step, or how often each line ran
 -count Prints how often each instruction ran, in place of the steps
 :html=OUT The file that a page of the run goes to, in place of the steps; `-` is the standard output
 -json Prints only JSON objects, one a line, as docs/JSON.md lists them
+:language=LANGUAGE The language of a text: `tkv` or `asm`; without it, `tkv` if the path ends with .tkv
 
 The routine runs as by `geos call`, also on blocks of FILE that it borrows, and its faults are the same. If
 a block cannot be lent, only `refused N` is printed. Each step prints a line: the number of the line in the
@@ -168,13 +170,14 @@ Example:
   geos trace examples/heap.asm main --html heap.html
   geos trace examples/heap.asm main --watch mem:1:16
 ====
-test Runs scripts whose lines say what they are to print
+test Runs scripts whose lines say what they are to print, and the tests of a source
 !IN A file of assembly text, at most 1,048,576 bytes, or of an image's bytes; `-` is the standard input
-+SCRIPT A file of commands, at most 1,048,576 bytes; `-` is the standard input
+*SCRIPT A file of commands, at most 1,048,576 bytes; `-` is the standard input; none is required if IN has tests
 :file=FILE The VM file of which each script gets a copy in memory; without it, a new one
 :junit=OUT The file that the results go to as JUnit XML
 -coverage Prints how often each line of IN ran, after the lines that failed
 #region=1048576 How many bytes of memory the blocks have, 65536 to 16777216
+:language=LANGUAGE The language of a text: `tkv` or `asm`; without it, `tkv` if the path ends with .tkv
 
 Each SCRIPT runs as by `geos call IN`, and a line may end with `=>` and what it is to print:
   call add 2 3 => 5
@@ -186,7 +189,10 @@ with a copy of FILE, which does not change. Each line that prints something else
 `SCRIPT:3: expected 5, printed 6`, a bad line with what is wrong. If a line is bad, its script does not run,
 or ends there, and the lines with `=>` that did not run have failed. The last line counts the lines with
 `=>`, as `7 passed, 1 failed`. The status is 1 if a line failed or is bad.
-With --junit, the file OUT gets the same as JUnit XML: a suite for each SCRIPT, and in it a case for each line
+A source of the structured language may have tests, which run first, each as a SCRIPT:
+  test \"adds\" { add(2, 3) => 5; peek(9) => refused 1; begin() =>; }
+A line that differs is reported as `IN:3: expected 5, printed 6 in test \"adds\"`.
+With --junit, the file OUT gets the same as JUnit XML: a suite for each test and SCRIPT, and in it a case for each line
 with `=>`, and for each bad line. After a fault OUT is unchanged.
 With --coverage, each line of the text or the source in IN follows, with how often it ran in all scripts:
        12:         ADD w0 w0 w1
@@ -199,12 +205,14 @@ its pc, counted from 0. Then `11 of 12 instructions ran` precedes the last line.
 Example:
   geos test add.asm add.script      if add.asm has the text of `geos help`
   geos test add.asm add.script --coverage
+  geos test add.tkv                 if this source has tests
 ====
 asm Makes the image of a text
 !IN A file of assembly text, at most 1,048,576 bytes; `-` is the standard input
 !OUT The file that the image goes to; `-` is the standard output
 -all-rows Gives a row at each instruction, as images of version 1 do
 -json Prints only JSON objects, one a line, as docs/JSON.md lists them
+:language=LANGUAGE The language of a text: `tkv` or `asm`; without it, `tkv` if the path ends with .tkv
 
 An existing file OUT is replaced. After a fault it is unchanged. The image has version 2: rows only
 where a routine begins, at labels that are used, and after JMP and RET. A row says what is known at an
@@ -226,6 +234,7 @@ budget Writes a text with the least budget of each routine
 !TEXT A file of assembly text, whose budgets may each be a `?`; `-` is the standard input
 ?OUT The file that the text goes to; without it, or with `-`, the standard output
 -in-place Replaces the text in the file TEXT
+:language=LANGUAGE The language of a text: `tkv` or `asm`; without it, `tkv` if the path ends with .tkv
 
 Each number after `budget`, or a `?` in its place, becomes the least budget that is found. The budget of a
 caller includes those of the routines that it calls. All other bytes stay. The faults are those of `asm`.
@@ -237,14 +246,17 @@ the new text replaces the old one in TEXT.
 Example:
   geos budget draft.asm add.asm && geos call add.asm add 2 3
 ====
-fmt Puts the labels, instructions and comments of a text into columns
-!TEXT A file of assembly text; `-` is the standard input
+fmt Puts a text into columns, or a source into one layout
+!TEXT A file of assembly text, or a source of the structured language; `-` is the standard input
 ?OUT The file that the text goes to; without it, or with `-`, the standard output
 -in-place Replaces the text in the file TEXT
+:language=LANGUAGE The language of a text: `tkv` or `asm`; without it, `tkv` if the path ends with .tkv
 
 Labels and lines `routine` begin at the start of a line, instructions at column 8, and words have one space
 between them. A comment stays at its column if the words before it leave room. The image of the text stays
 the same, and a text that is formatted again does not change. A text with faulty lines can be formatted too.
+Lines of a source are indented by their blocks, with at most one blank line between two and the usual spaces
+between words. Its words and comments stay. A fault is the first place where no word begins.
 OUT is not TEXT; with --in-place the new text replaces the old one in TEXT.
 
 Example:
@@ -252,10 +264,12 @@ Example:
 ====
 list Prints the image as text
 !IMAGE A file of an image's bytes, or of assembly text; `-` is the standard input
+:language=LANGUAGE The language of a text: `tkv` or `asm`; without it, `tkv` if the path ends with .tkv
 ====
 check Prints `accepted` if the image may run, or `sound` if a VM file is legal
 !IMAGE A file of an image's bytes, or of assembly text, or a VM file; `-` is the standard input
 -json Prints only JSON objects, one a line, as docs/JSON.md lists them
+:language=LANGUAGE The language of a text: `tkv` or `asm`; without it, `tkv` if the path ends with .tkv
 
 IMAGE is an image if it begins as one does, and otherwise a text, whose faults are those of `geos asm`. `bad
 image at N` names the first byte that is wrong. `geos explain` says what is wrong with an image or a text.
@@ -283,6 +297,7 @@ explain Prints a text or an image with what is known at each instruction, and wh
 -vars Lets lines of SCRIPT keep and use names, as `run --vars` and `call` do
 :html=OUT The file that a page goes to, in place of the lines; `-` is the standard output
 -json Prints only JSON objects, one a line, as docs/JSON.md lists them
+:language=LANGUAGE The language of a text: `tkv` or `asm`; without it, `tkv` if the path ends with .tkv
 
 IMAGE is an image if it begins as one does, and otherwise a text. Each line of a text is printed with its
 number; after an instruction come what is known before it runs, and how many steps are left then at most. A
@@ -342,6 +357,7 @@ run Runs a script on a VM file
 -signed Prints words as numbers from -32768 to 32767
 -text Prints the words of a call as bytes of a text
 -label Prints each line after its call
+:language=LANGUAGE The language of a text: `tkv` or `asm`; without it, `tkv` if the path ends with .tkv
 
 IMAGE is an image if it begins as one does, and otherwise a text, which is assembled in memory; so a VM file
 there is `line 1: why 1`.

@@ -4,18 +4,18 @@ use crate::answer::Answer;
 use std::alloc::{AllocError, Global};
 
 pub(crate) const USAGES: &str = "\
-geos call IN [NAME [N..]] [--file FILE [--update | --save]] [--grant EFFECTS] [--most-steps N] [--most-bytes N] [--most-blocks N] [--region N] [--strict] [--expect] [FORM | --json]
-       geos trace IN NAME [N..] [--steps N|A..B | --from STEP] [--only ROUTINE | --count | --html OUT] [--break ROUTINE:LINE].. [--when CONDITION].. [--watch H:C] [--file FILE] [--grant EFFECTS] [--most-steps N] [--most-bytes N] [--most-blocks N] [--region N] [--json]
-       geos test IN SCRIPT.. [--file FILE] [--junit OUT] [--coverage] [--region N]
-       geos asm IN OUT [--all-rows] [--json]
-       geos budget TEXT [OUT | --in-place]
-       geos fmt TEXT [OUT | --in-place]
-       geos list IMAGE
-       geos check IMAGE [--json]
-       geos explain IMAGE [--script SCRIPT [--vars] | --html OUT | --json]
+geos call IN [NAME [N..]] [--file FILE [--update | --save]] [--grant EFFECTS] [--most-steps N] [--most-bytes N] [--most-blocks N] [--region N] [--strict] [--expect] [FORM | --json] [--language LANGUAGE]
+       geos trace IN NAME [N..] [--steps N|A..B | --from STEP] [--only ROUTINE | --count | --html OUT] [--break ROUTINE:LINE].. [--when CONDITION].. [--watch H:C] [--file FILE] [--grant EFFECTS] [--most-steps N] [--most-bytes N] [--most-blocks N] [--region N] [--json] [--language LANGUAGE]
+       geos test IN [SCRIPT..] [--file FILE] [--junit OUT] [--coverage] [--region N] [--language LANGUAGE]
+       geos asm IN OUT [--all-rows] [--json] [--language LANGUAGE]
+       geos budget TEXT [OUT | --in-place] [--language LANGUAGE]
+       geos fmt TEXT [OUT | --in-place] [--language LANGUAGE]
+       geos list IMAGE [--language LANGUAGE]
+       geos check IMAGE [--json] [--language LANGUAGE]
+       geos explain IMAGE [--script SCRIPT [--vars] | --html OUT | --json] [--language LANGUAGE]
        geos new FILE [--area N]
        geos copy FILE NEW [--area N] [--saved]
-       geos run IMAGE FILE SCRIPT [--grant EFFECTS] [--most-steps N] [--most-bytes N] [--most-blocks N] [--region N] [--strict] [--expect] [--vars] [--update | --save] [FORM]
+       geos run IMAGE FILE SCRIPT [--grant EFFECTS] [--most-steps N] [--most-bytes N] [--most-blocks N] [--region N] [--strict] [--expect] [--vars] [--update | --save] [FORM] [--language LANGUAGE]
        geos put FILE (H C [AT] [--item] | --new-block UID | --new-group | --new-chunk H | --new-item G) [--array IN [--fields FIELDS]] [--region N]
        geos get FILE H C [--item] [--array [--fields FIELDS] [--json]] [--region N]
        geos dump FILE [H [C]] [--saved] [--chunks | --arrays] [--json]

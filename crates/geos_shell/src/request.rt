@@ -13,6 +13,7 @@ use crate::faults::has_faults;
 use crate::forms::{EndCommit, OutputForm};
 use crate::given::Given;
 use crate::help::misuse;
+use crate::language::Language;
 use crate::making::New;
 use crate::numbers::{AREA, REGION, StepRange, WIDTH};
 use crate::rules::misuse_of;
@@ -245,6 +246,8 @@ pub struct Asked<'a> {
     pub limits: RunLimits<'a>,
     /// What is reported on standard error.
     pub reports: Reports,
+    /// The language of the text that is read.
+    pub language: Language,
     /// Whether standard error goes into a file that the request reads or works on, or into a VM file or an image that it is to write: a
     /// message would become part of the file.
     pub has_faults: bool,
@@ -553,6 +556,7 @@ fn asked_of<'a>(rt: &HostRuntime, matches: &ArgMatches<'a>) -> Result<Asked<'a>,
                 request,
                 limits: RunLimits::of(&given),
                 reports: Reports::of(rt, &given),
+                language: Language::of(&given),
                 has_faults,
             })
         }

@@ -2,6 +2,7 @@
 
 use crate::command_line::parts_of;
 use crate::given::Given;
+use crate::language::is_language;
 use crate::numbers::{number_in, steps_in};
 use crate::row_fields::are_fields;
 use crate::step_choice::{Chunk, Condition, Line};
@@ -32,6 +33,7 @@ trace count watch: '--break', '--when' and '--watch' can't be given with '--coun
 trace html break: '--break', '--when' and '--watch' can't be given with '--count' or '--html'
 trace html when: '--break', '--when' and '--watch' can't be given with '--count' or '--html'
 trace html watch: '--break', '--when' and '--watch' can't be given with '--count' or '--html'
+* language%: '--language' takes tkv or asm
 * fields%: '--fields' takes 1, 2 and Nt, with N from 1 to 65527, and a comma between them, as 2,2,8t
 * fields !array: '--fields' requires '--array'
 put array AT: '--array' replaces all elements, so AT can't be given
@@ -122,6 +124,7 @@ fn has_form(name: &str, word: &str) -> bool {
         "break" => Line::of(word).is_some(),
         "when" => Condition::of(word).is_some(),
         "watch" => Chunk::of(word).is_some(),
+        "language" => is_language(word),
         _ => are_fields(word),
     }
 }
