@@ -2,7 +2,7 @@
 
 use geos_json::JsonLines;
 use geos_lints::Advice;
-use geos_shell::{Diagnosed, Reported, Reports, StreamFault, done_or_reported, print};
+use geos_shell::{Diagnosed, Reported, Reports, StreamFault, TextPath, done_or_reported, print};
 use geos_texts::{Runnable, TextFault, assemble, assemble_all};
 use json_findings::{Finding, Severity, put_finding};
 use language_server::{Judged, Wanted, put_read};
@@ -96,9 +96,9 @@ fn told<'a>(
 pub(crate) fn read_and_tell<'a>(
     rt: &HostRuntime,
     reports: Reports,
-    path: &'a str,
+    from: TextPath<'a>,
 ) -> Result<Runnable<'a>, TextFault<'a>> {
-    let judged = told(rt, reports, Runnable::read(rt, path), false)?;
+    let judged = told(rt, reports, Runnable::read(rt, from), false)?;
     Ok(judged.image)
 }
 
@@ -106,10 +106,10 @@ pub(crate) fn read_and_tell<'a>(
 pub(crate) fn check_and_tell<'a>(
     rt: &HostRuntime,
     reports: Reports,
-    path: &'a str,
+    from: TextPath<'a>,
     effects: bool,
 ) -> Result<(), TextFault<'a>> {
-    let judged = told(rt, reports, Runnable::read(rt, path), effects)?;
+    let judged = told(rt, reports, Runnable::read(rt, from), effects)?;
     match judged.reject {
         None => Ok(()),
         Some(reject) => Err(TextFault::Explained(reject)),
@@ -120,7 +120,7 @@ pub(crate) fn check_and_tell<'a>(
 pub(crate) fn assemble_and_tell<'a>(
     rt: &HostRuntime,
     reports: Reports,
-    text: &'a str,
+    text: TextPath<'a>,
     image: &'a str,
     all_rows: bool,
 ) -> Result<(), TextFault<'a>> {

@@ -5,7 +5,9 @@ ghost use Rattle.geos_shell.specs.Limits.{KeepsLimits};
 
 mod json;
 mod pages;
+mod prompting;
 mod requests;
+mod testing;
 
 use geos_shell::{Answer, Asked, Reported, keep_stream_numbers, report, requested, words};
 use geos_topics::topic_of;
@@ -52,7 +54,7 @@ fn run_request(rt: &HostRuntime, asked: Asked) -> ExitCode
         return ExitCode::FAILURE;
     }
     let reports = asked.reports;
-    let done = carry_out(rt, reports, asked.request, &asked.limits);
+    let done = carry_out(rt, asked);
     if reports.json {
         return ended(rt, done);
     }

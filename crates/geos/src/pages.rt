@@ -2,7 +2,7 @@
 
 use geos_json::JsonLines;
 use geos_pages::{Subject, html};
-use geos_shell::{PagePaths, StreamFault, read, write};
+use geos_shell::{Language, PagePaths, StreamFault, read, write};
 use geos_texts::{MOST_READ, Runnable, TextFault, known_at_lines, known_lines};
 use language_server::{Wanted, put_read};
 use line_marks::LineMarks;
@@ -69,9 +69,10 @@ fn unmarked<'a>(
 pub(crate) fn explain_on_page<'a>(
     rt: &HostRuntime,
     paths: PagePaths<'a>,
+    language: Language,
 ) -> Result<(), TextFault<'a>> {
     let alloc = rt.alloc();
-    let found = unmarked(alloc, Runnable::read(rt, paths.shown));
+    let found = unmarked(alloc, Runnable::read(rt, language.at(paths.shown)));
     let shown = shown_of(rt, &found)?;
     let wanted = Wanted {
         warnings: true,

@@ -1,22 +1,22 @@
 //! Carries out the requests of the command line.
 
-ghost use Rattle.geos_shell.specs.Limits.{IsRegion, KeepsLimits, RunsWithinLimits, WorksWithinLimits};
+ghost use Rattle.geos_shell.specs.Limits.{KeepsLimits, RunsWithinLimits, WorksWithinLimits};
 
 use crate::json::{assemble_and_tell, check_and_tell, done, print_warning, read_and_tell};
 use crate::pages::explain_on_page;
+use crate::testing::run_tests;
 use geos_cli::Mode;
 use geos_dump::{Detail, Side, View};
 use geos_files::{
     check_file, compare_files, copy_file, draw_file, is_vm_file, make_file, make_page, print_file,
 };
 use geos_runs::{
-    Manner, RunFault, Shown, Testable, Traceable, call as run_call, get, put, run, session, test,
-    trace,
+    Manner, RunFault, Shown, Traceable, call as run_call, get, put, run, session, trace,
 };
 use geos_scripts::NameUse;
 use geos_shell::{
-    CallWords, DumpRequest, EndCommit, FileRequest, OutputForm, Reported, Reports, Request, Room,
-    RoutineRequest, RunLimits, TestRequest, TextRequest, report, tell,
+    Asked, CallWords, DumpRequest, EndCommit, FileRequest, Language, OutputForm, Reported, Reports,
+    Request, Room, RoutineRequest, RunLimits, TextPath, TextRequest, report, tell,
 };
 use geos_texts::{
     KnownLines, Limited, Limits, Runnable, TextFault, assemble, assemble_all, budget, check,
@@ -70,7 +70,7 @@ fn view_of(dump: &DumpRequest<'_>, json: bool) -> View {
 }
 
 /// The end of a run of routines. If the verifier refuses their image, its refusals are among the diagnostics.
-fn ran<T: Drop>(
+pub(crate) fn ran<T: Drop>(
     rt: &HostRuntime,
     reports: Reports,
     ran: Result<T, RunFault<'_>>,
@@ -84,10 +84,10 @@ fn ran<T: Drop>(
 }
 
 /// Reads an image, or assembles it from a text.
-fn runnable<'a>(
+pub(crate) fn runnable<'a>(
     rt: &HostRuntime,
     reports: Reports,
-    image: &'a str,
+    image: TextPath<'a>,
 ) -> Result<Runnable<'a>, Reported> {
     let read = if reports.json {
         read_and_tell(rt, reports, image)
@@ -101,12 +101,11 @@ fn runnable<'a>(
 fn limited<'a>(
     rt: &HostRuntime,
     reports: Reports,
-    image: &'a str,
-    called: Option<&'a str>,
+    named: &Named<'a>,
     limits: &RunLimits<'a>,
 ) -> Result<Limited<'a>, Reported> {
-    let routines = runnable(rt, reports, image)?;
-    let limits = done(rt, reports, Limits::of(limits, called))?;
+    let routines = runnable(rt, reports, named.image)?;
+    let limits = done(rt, reports, Limits::of(limits, named.called))?;
     done(rt, reports, Limited::new(rt.alloc(), routines, limits))
 }
 
@@ -197,8 +196,8 @@ fn traceable_of<'t>(
 /// What is read of a request before its routines run.
 #[derive(Clone, Copy)]
 struct Named<'a> {
-    /// The path of the image or the text.
-    image: &'a str,
+    /// The path of the image or the text, and its language.
+    image: TextPath<'a>,
     /// The routine that a call names.
     called: Option<&'a str>,
     /// How many numbers it has.
@@ -218,11 +217,11 @@ fn count_numbers(call: &CallWords<'_>) -> usize {
 }
 
 /// What a request names. A session names no image.
-fn named_in<'a>(request: &RoutineRequest<'a>) -> Option<Named<'a>> {
+fn named_in<'a>(request: &RoutineRequest<'a>, language: Language) -> Option<Named<'a>> {
     match request {
         RoutineRequest::Session => None,
         RoutineRequest::Call { image, call, .. } => Some(Named {
-            image,
+            image: language.at(image),
             called: match call {
                 Some(call) => Some(call.name),
                 None => None,
@@ -235,14 +234,14 @@ fn named_in<'a>(request: &RoutineRequest<'a>) -> Option<Named<'a>> {
             page: None,
         }),
         RoutineRequest::Trace { image, words, .. } => Some(Named {
-            image,
+            image: language.at(image),
             called: Some(words.call.name),
             numbers: count_numbers(&words.call),
             traces: true,
             page: words.page,
         }),
         RoutineRequest::Run { image, .. } => Some(Named {
-            image,
+            image: language.at(image),
             called: None,
             numbers: 0,
             traces: false,
@@ -273,13 +272,14 @@ fn run_routines<'a>(
     reports: Reports,
     request: RoutineRequest<'a>,
     limits: &RunLimits<'a>,
+    language: Language,
 ) -> Result<(), Reported>
     requires { RunsWithinLimits request }
 {
-    let Some(named) = named_in(&request) else {
+    let Some(named) = named_in(&request, language) else {
         return done(rt, reports, session(rt));
     };
-    let kept = limited(rt, reports, named.image, named.called, limits)?;
+    let kept = limited(rt, reports, &named, limits)?;
     run_limited(rt, reports, request, &named, &kept)
 }
 
@@ -361,62 +361,49 @@ fn run_on<'a, 't>(
     }
 }
 
-/// Runs test scripts as the request asks. Lines that failed are printed, so standard error has nothing of them.
-fn run_tests(rt: &HostRuntime, reports: Reports, request: TestRequest<'_>) -> Result<(), Reported>
-    requires { IsRegion request.region }
-{
-    let routines = runnable(rt, reports, request.image)?;
-    let testable = Testable {
-        image: &routines.image,
-        text: routines.written(),
-        lines: routines.lines(),
-    };
-    let tested = test(rt, &testable, &request);
-    if ran(rt, reports, tested, &routines)? {
-        Ok(())
-    } else {
-        Err(Reported)
-    }
-}
-
 /// Works on a text or an image as the request asks.
 fn work_on_text<'a>(
     rt: &HostRuntime,
     reports: Reports,
     request: TextRequest<'a>,
+    language: Language,
 ) -> Result<(), TextFault<'a>> {
     match request {
         TextRequest::Assemble {
             text,
             image,
             all_rows,
-        } if reports.json => assemble_and_tell(rt, reports, text, image, all_rows),
-        TextRequest::Check(path) if reports.json => check_and_tell(rt, reports, path, false),
-        TextRequest::Explain(path) if reports.json => check_and_tell(rt, reports, path, true),
+        } if reports.json => assemble_and_tell(rt, reports, language.at(text), image, all_rows),
+        TextRequest::Check(path) if reports.json => {
+            check_and_tell(rt, reports, language.at(path), false)
+        }
+        TextRequest::Explain(path) if reports.json => {
+            check_and_tell(rt, reports, language.at(path), true)
+        }
         TextRequest::Assemble {
             text,
             image,
             all_rows: false,
         } => {
-            assemble(rt, reports, text, image)?;
+            assemble(rt, reports, language.at(text), image)?;
             Ok(())
         }
         TextRequest::Assemble {
             text,
             image,
             all_rows: true,
-        } => assemble_all(rt, text, image),
-        TextRequest::Budget(paths) => budget(rt, paths),
-        TextRequest::Format(paths) => format(rt, paths),
-        TextRequest::List(path) => list(rt, path),
-        TextRequest::Check(path) => check(rt, reports, path),
-        TextRequest::Explain(path) => explain(rt, path),
-        TextRequest::Page(paths) => explain_on_page(rt, paths),
+        } => assemble_all(rt, language.at(text), image),
+        TextRequest::Budget(paths) => budget(rt, paths, language),
+        TextRequest::Format(paths) => format(rt, paths, language),
+        TextRequest::List(path) => list(rt, language.at(path)),
+        TextRequest::Check(path) => check(rt, reports, language.at(path)),
+        TextRequest::Explain(path) => explain(rt, language.at(path)),
+        TextRequest::Page(paths) => explain_on_page(rt, paths, language),
         TextRequest::ExplainScript {
             image,
             script,
             names,
-        } => explain_script(rt, image, script, use_of(names)),
+        } => explain_script(rt, language.at(image), script, use_of(names)),
     }
 }
 
@@ -460,23 +447,27 @@ fn serve_editor(rt: &HostRuntime) -> Result<(), Reported> {
     }
 }
 
-/// Carries out a request. A fault is reported on standard error, with diagnostics if they are required. `limits` are tested before `call`,
+/// Carries out a request. A fault is reported on standard error, with diagnostics if they are required. The limits are tested before `call`,
 /// `run` and `trace` run anything.
-pub(crate) fn carry_out(
-    rt: &HostRuntime,
-    reports: Reports,
-    request: Request<'_>,
-    limits: &RunLimits<'_>,
-) -> Result<(), Reported>
-    requires { KeepsLimits request }
+pub(crate) fn carry_out(rt: &HostRuntime, asked: Asked<'_>) -> Result<(), Reported>
+    requires { KeepsLimits asked.request }
 {
+    let Asked {
+        request,
+        limits,
+        reports,
+        language,
+        ..
+    } = asked;
     match request {
-        Request::Routines(request) => run_routines(rt, reports, request, limits),
-        Request::Test(request) => run_tests(rt, reports, request),
+        Request::Routines(request) => run_routines(rt, reports, request, &limits, language),
+        Request::Test(request) => run_tests(rt, reports, request, language),
         Request::Text(TextRequest::Check(path)) if is_vm_file(rt, path) => {
             done(rt, reports, check_file(rt, path, reports.json))
         }
-        Request::Text(request) => { done(rt, reports, work_on_text(rt, reports, request)) }
+        Request::Text(request) => {
+            done(rt, reports, work_on_text(rt, reports, request, language))
+        }
         Request::File(request) => work_on_file(rt, reports, request),
         Request::Serve => serve_editor(rt),
     }

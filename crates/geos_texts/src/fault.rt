@@ -110,9 +110,15 @@ pub enum TextFault<'a> {
     /// An image of version 1 is required of a source.
     #[error("--all-rows requires an assembly text")]
     AllRowsOfSource,
-    /// An assembly text is required, and a source or an image is given.
-    #[error("fmt requires an assembly text")]
+    /// A text is required, and an image is given.
+    #[error("fmt requires a text")]
     NoText,
+    /// The budgets of a source are required, and a source has none.
+    #[error("budget requires an assembly text: a source has no budgets")]
+    BudgetOfSource,
+    /// The words of a source would be others in one layout.
+    #[error("fmt can't lay out this source: two signs of it would become one")]
+    OtherWords,
     /// A text is longer than a text may be.
     #[error("a text has at most 1,048,576 bytes")]
     LongText,

@@ -23,4 +23,4 @@ pub use requests::{
     known_at_lines, known_lines, list, read_and_warn, tell_warning,
 };
 pub use runnable::Runnable;
-pub use sources::FaultySource;
+pub use sources::{FaultySource, LineWarning, ScriptOfTest};

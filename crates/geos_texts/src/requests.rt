@@ -7,13 +7,14 @@ use crate::commands::{
 use crate::fault::{FaultyText, Refused, TextFault};
 use crate::grants::effect_lines;
 use crate::runnable::{Runnable, Unmarked, read_completed, read_unmarked};
-use crate::sources::is_source;
+use crate::sources::formatted_source;
 use geos_asm::{AssembleError, Assembled, BudgetError, Budgeted, completed, find_budgets};
 use geos_input::{MOST_BYTES, ScriptFault};
 use geos_lints::Advice;
 use geos_scripts::{BadLines, NameUse, tell_bad_lines};
 use geos_shell::{
-    Named, NewText, Reports, STANDARD, StreamFault, print, print_lines, read, tell, write,
+    Language, Named, NewText, Reports, STANDARD, StreamFault, TextPath, print, print_lines, read,
+    tell, write,
 };
 use geos_verify::{Reject, check as check_image};
 use line_marks::{LineMarks, formatted};
@@ -26,12 +27,13 @@ pub const MOST_READ: u64 = MOST_BYTES as u64 + 1;
 /// `TextFault::AllRowsOfSource` if `text` names a source; otherwise the faults of `assemble`.
 pub fn assemble_all<'a>(
     rt: &HostRuntime,
-    text: &'a str,
+    from: TextPath<'a>,
     image: &'a str,
 ) -> Result<(), TextFault<'a>> {
-    if is_source(text) {
+    if from.is_source() {
         return Err(TextFault::AllRowsOfSource);
     }
+    let text = from.path;
     let Unmarked { bytes, marks } = read_unmarked(rt, text)?;
     match assemble_all_rows_bytes(rt.alloc(), &bytes) {
         Ok(Some(made)) => Ok(write(rt, image, &made, text)?),
@@ -45,11 +47,12 @@ pub fn assemble_all<'a>(
 pub fn assemble<'a>(
     rt: &HostRuntime,
     reports: Reports,
-    text: &'a str,
+    from: TextPath<'a>,
     image: &'a str,
 ) -> Result<Runnable<'a>, TextFault<'a>> {
-    if is_source(text) {
-        let made = read_and_warn(rt, reports, text)?;
+    let text = from.path;
+    if from.is_source() {
+        let made = read_and_warn(rt, reports, from)?;
         write(rt, image, &made.image, text)?;
         return Ok(made);
     }
@@ -169,16 +172,24 @@ fn write_new<'a>(rt: &HostRuntime, paths: NewText<'a>, made: &[u8]) -> Result<()
     Ok(write(rt, paths.new, made, source)?)
 }
 
-/// Writes a text with its labels, instructions and comments in columns. `TextFault::NoText` of a source or an image, and
-/// `TextFault::LongText` of more than 1,048,576 bytes; then nothing is written.
-pub fn format<'a>(rt: &HostRuntime, paths: NewText<'a>) -> Result<(), TextFault<'a>> {
+/// Writes a text with its labels, instructions and comments in columns, or a source in one layout. `TextFault::NoText` of an image,
+/// `TextFault::LongText` of more than 1,048,576 bytes, and `TextFault::Source` if a word of a source is none; then nothing is written.
+pub fn format<'a>(
+    rt: &HostRuntime,
+    paths: NewText<'a>,
+    language: Language,
+) -> Result<(), TextFault<'a>> {
     let text = read(rt, paths.text, MOST_READ)?;
-    if is_source(paths.text) || begins_as_image(&text) {
+    if begins_as_image(&text) {
         return Err(TextFault::NoText);
     }
     // What is read of a longer text is not all of it.
     if text.len() > MOST_BYTES {
         return Err(TextFault::LongText);
+    }
+    if language.at(paths.text).is_source() {
+        let made = formatted_source(rt.alloc(), paths.text, &text)?;
+        return write_new(rt, paths, &made);
     }
     match formatted(rt.alloc(), &text) {
         Ok(made) => write_new(rt, paths, &made),
@@ -186,9 +197,16 @@ pub fn format<'a>(rt: &HostRuntime, paths: NewText<'a>) -> Result<(), TextFault<
     }
 }
 
-/// Writes a text with the least budget of each routine. `TextFault::Budget` if no budgets are enough, and `TextFault::Refused` if the verifier refuses the text with them; then nothing is
+/// Writes a text with the least budget of each routine. `TextFault::BudgetOfSource` of a source, `TextFault::Budget` if no budgets are enough, and `TextFault::Refused` if the verifier refuses the text with them; then nothing is
 /// written.
-pub fn budget<'a>(rt: &HostRuntime, paths: NewText<'a>) -> Result<(), TextFault<'a>> {
+pub fn budget<'a>(
+    rt: &HostRuntime,
+    paths: NewText<'a>,
+    language: Language,
+) -> Result<(), TextFault<'a>> {
+    if language.at(paths.text).is_source() {
+        return Err(TextFault::BudgetOfSource);
+    }
     let unmarked = read_unmarked(rt, paths.text)?;
     let made = accepted_with_least(rt.alloc(), paths.text, unmarked)?;
     write_new(rt, paths, &made)
@@ -198,16 +216,16 @@ pub fn budget<'a>(rt: &HostRuntime, paths: NewText<'a>) -> Result<(), TextFault<
 pub fn read_and_warn<'a>(
     rt: &HostRuntime,
     reports: Reports,
-    path: &'a str,
+    from: TextPath<'a>,
 ) -> Result<Runnable<'a>, TextFault<'a>> {
-    let image = Runnable::read(rt, path)?;
+    let image = Runnable::read(rt, from)?;
     warn(rt, reports, &image);
     Ok(image)
 }
 
 /// Prints the listing of an image, or of the image of a text, and comments with the effects of each routine. `TextFault::Read` if the bytes begin as an image does and are none.
-pub fn list<'a>(rt: &HostRuntime, path: &'a str) -> Result<(), TextFault<'a>> {
-    let image = Runnable::read(rt, path)?.image;
+pub fn list<'a>(rt: &HostRuntime, from: TextPath<'a>) -> Result<(), TextFault<'a>> {
+    let image = Runnable::read(rt, from)?.image;
     let text = list_bytes(rt.alloc(), &image)?;
     let effects = effect_lines(rt.alloc(), &image)?;
     print(rt, &text)?;
@@ -216,8 +234,12 @@ pub fn list<'a>(rt: &HostRuntime, path: &'a str) -> Result<(), TextFault<'a>> {
 
 /// Prints `accepted` if the image, or the image of a text, may run, and reports warnings about a text, if they are required. `TextFault::Refused` if the verifier refuses it, and `TextFault::Read` if
 /// the bytes begin as an image does and are none.
-pub fn check<'a>(rt: &HostRuntime, reports: Reports, path: &'a str) -> Result<(), TextFault<'a>> {
-    let image = read_and_warn(rt, reports, path)?;
+pub fn check<'a>(
+    rt: &HostRuntime,
+    reports: Reports,
+    from: TextPath<'a>,
+) -> Result<(), TextFault<'a>> {
+    let image = read_and_warn(rt, reports, from)?;
     match check_bytes(rt.alloc(), &image.image)? {
         None => Ok(print(rt, b"accepted\n")?),
         Some(reject) => Err(TextFault::Refused(Refused { image, reject })),
@@ -294,7 +316,7 @@ pub fn known_lines<'a>(
     routines: &Runnable<'a>,
 ) -> Result<KnownLines, TextFault<'a>> {
     let path = routines.path;
-    if routines.lines.is_none() || path == STANDARD || is_source(path) {
+    if routines.lines.is_none() || path == STANDARD || routines.is_of_source() {
         return Ok(KnownLines {
             lines: explain_bytes(rt.alloc(), &routines.image)?.text,
             of_text: false,
@@ -318,14 +340,14 @@ pub fn known_at_lines(alloc: Global, text: &[u8]) -> Result<Vec<u8>, AllocError>
 
 /// Prints the listing of an image, or the lines of a text, with what is known at each instruction, and comments with the effects of each
 /// routine. After that, `TextFault::Explained` if the verifier refuses the image, and `TextFault::Unexplained` if the text is not assembled.
-pub fn explain<'a>(rt: &HostRuntime, path: &'a str) -> Result<(), TextFault<'a>> {
-    let unmarked = if is_source(path) {
+pub fn explain<'a>(rt: &HostRuntime, from: TextPath<'a>) -> Result<(), TextFault<'a>> {
+    let unmarked = if from.is_source() {
         Unmarked {
-            bytes: Runnable::read(rt, path)?.image,
+            bytes: Runnable::read(rt, from)?.image,
             marks: LineMarks::new(rt.alloc()),
         }
     } else {
-        read_completed(rt, path)?
+        read_completed(rt, from.path)?
     };
     let explained = explained(rt, &unmarked)?;
     print_lines(rt, &explained.text)?;
@@ -340,7 +362,7 @@ pub fn explain<'a>(rt: &HostRuntime, path: &'a str) -> Result<(), TextFault<'a>>
 /// `names` says whether lines may write names for words.
 pub fn explain_script<'a>(
     rt: &HostRuntime,
-    image: &'a str,
+    image: TextPath<'a>,
     script: &'a str,
     names: NameUse,
 ) -> Result<(), TextFault<'a>> {

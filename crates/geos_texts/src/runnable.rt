@@ -4,12 +4,12 @@ use crate::commands::{Made, NotMade, begins_as_image, image_of};
 use crate::fault::{FaultyText, TextFault, by_marks};
 use crate::files::{Joined, read_joined};
 use crate::requests::MOST_READ;
-use crate::sources::{compiled, is_source};
+use crate::sources::{LineWarning, ScriptOfTest, compiled, scripts_of, warning_lines};
 use geos_asm::completed;
 use geos_explain::diagnose;
 use geos_image::ReadError;
 use geos_lints::{Advice, advice_on_call, warnings};
-use geos_shell::{Named, StreamFault, read};
+use geos_shell::{Named, StreamFault, TextPath, read};
 use geos_verify::{check, refused_places};
 use line_marks::{LineMarks, Origin, origins_of};
 use std::alloc::{AllocError, Global};
@@ -80,7 +80,7 @@ pub struct Runnable<'a> {
     /// The line marks of the text.
     pub marks: LineMarks,
     /// The warnings about a source. Those about a text are found when they are required.
-    pub(crate) told: Vec<u8>,
+    pub told: Vec<LineWarning>,
     /// The source that the image was made of, after the files that it uses. Empty without one.
     pub source: Vec<u8>,
 }
@@ -89,18 +89,23 @@ impl<'a> Runnable<'a> {
     /// Reads what a path names: an image; a source, which is compiled; or a text, which is assembled, a draft with the least budgets.
     /// `TextFault::Stream` if the path cannot be read, `TextFault::Source` if the source has a fault, and `TextFault::Assemble` if the text
     /// has no image.
-    pub fn read(rt: &HostRuntime, path: &'a str) -> Result<Runnable<'a>, TextFault<'a>> {
-        let bytes = read(rt, path, MOST_READ)?;
-        if is_source(path) {
-            let Joined { text, marks } = read_joined(rt, path, bytes)?;
-            return compiled(rt.alloc(), path, &text, marks);
+    pub fn read(rt: &HostRuntime, from: TextPath<'a>) -> Result<Runnable<'a>, TextFault<'a>> {
+        let bytes = read(rt, from.path, MOST_READ)?;
+        if from.is_source() {
+            let Joined { text, marks } = read_joined(rt, from.path, bytes)?;
+            return compiled(rt.alloc(), from.path, &text, marks);
         }
-        Runnable::of(rt.alloc(), path, bytes)
+        Runnable::of(rt.alloc(), from, bytes)
     }
 
     /// The same of the bytes of what a path names, which is a source without the files that it uses.
-    pub fn of(alloc: Global, path: &'a str, bytes: Vec<u8>) -> Result<Runnable<'a>, TextFault<'a>> {
-        if is_source(path) {
+    pub fn of(
+        alloc: Global,
+        from: TextPath<'a>,
+        bytes: Vec<u8>,
+    ) -> Result<Runnable<'a>, TextFault<'a>> {
+        let path = from.path;
+        if from.is_source() {
             return compiled(alloc, path, &bytes, LineMarks::new(alloc));
         }
         let Ok(Unmarked { bytes, marks }) = Unmarked::completed(alloc, bytes) else {
@@ -120,6 +125,17 @@ impl<'a> Runnable<'a> {
                 alloc, path, text, marks, fault,
             ))),
         }
+    }
+
+    /// Whether the image was made of a source. A source has at least one byte.
+    pub fn is_of_source(&self) -> bool {
+        !self.source.is_empty()
+    }
+
+    /// The tests of the source that the image was made of, without those of files that it uses; none without a source. `AllocError` if the
+    /// allocator refuses memory.
+    pub fn tests(&self, alloc: Global) -> Result<Vec<ScriptOfTest>, AllocError> {
+        scripts_of(alloc, &self.source, &self.marks)
     }
 
     /// The text or the source that the image was made of; empty without one. Its lines are those of `lines`.
@@ -179,8 +195,8 @@ impl<'a> Runnable<'a> {
             return Ok(Vec::new(alloc));
         };
         // The author of a source did not write its instructions.
-        if is_source(self.path) {
-            return Ok(Vec::from_slice(alloc, &self.told)?);
+        if self.is_of_source() {
+            return Ok(warning_lines(alloc, self.path, &self.marks, &self.told)?);
         }
         let path = Named(self.path);
         let file = format!(in alloc; "{path}")?;

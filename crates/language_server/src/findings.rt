@@ -6,6 +6,7 @@ use crate::positions::{Span, line_of, put_range};
 use crate::reading::{Wanted, put_read};
 use crate::reply::Reply;
 use geos_json::JsonLines;
+use geos_shell::TextPath;
 use geos_texts::{Runnable, uses_files};
 use serde_json::Value;
 use std::alloc::{AllocError, Global};
@@ -17,7 +18,7 @@ pub(crate) fn findings_of(alloc: Global, document: &Document) -> Result<Vec<u8>,
     let needs_files = document.is_source() && uses_files(document.text.as_bytes());
     if document.text.len() <= MOST_BYTES && !needs_files {
         let text = Vec::from_slice(alloc, document.text.as_bytes())?;
-        let read = Runnable::of(alloc, &document.uri, text);
+        let read = Runnable::of(alloc, TextPath::by_ending(&document.uri), text);
         let wanted = Wanted {
             warnings: true,
             effects: false,
@@ -100,11 +101,13 @@ impl<'d, 'v> Finding<'d, 'v> {
         Some(number(self.object, "cause_line")?.saturating_sub(1))
     }
 
-    /// The sentence. In a source it follows the line and the column.
+    /// The sentence. Of a fault of a source it follows the line and the column.
     fn sentence(&self, document: &Document) -> &'v str {
         let message = self.text("message");
         match message.split_once(": ") {
-            Some((_place, sentence)) if document.is_source() => sentence,
+            Some((_place, sentence)) if document.is_source() && self.text("kind") == "error" => {
+                sentence
+            }
             _ => message,
         }
     }

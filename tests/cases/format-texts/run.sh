@@ -24,9 +24,7 @@ for text in returns.asm "$top"/examples/*.asm $(find "$top/tests/cases" -name '*
     cmp before.said after.said && cmp before.image after.image || echo "$text has another image"
 done
 
-cp "$top/examples/records.tkv" . && "$program" fmt records.tkv --in-place 2>&1
+printf 'routine f public budget 1\nRET\n' >f.asm && "$program" asm f.asm f.image && "$program" fmt f.image --in-place 2>&1
 echo "status $?"
-cmp records.tkv "$top/examples/records.tkv"
-printf 'routine f public budget 1\nRET\n' >f.asm && "$program" asm f.asm f.image && "$program" fmt f.image 2>&1
 head -c 1048577 /dev/zero | tr '\0' ' ' >long.asm && "$program" fmt long.asm --in-place 2>&1
 wc -c <long.asm
