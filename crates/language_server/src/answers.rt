@@ -12,12 +12,20 @@ use line_marks::formatted;
 use serde_json::Value;
 use std::alloc::{AllocError, Global};
 
-/// The text in columns; none of a source, or of a text that is too long.
+/// The text in columns, or the source in one layout; none if it is too long, or if a word of a source is none.
 fn in_columns(alloc: Global, document: &Document) -> Result<Option<String>, AllocError> {
-    if document.is_source() || document.text.len() > MOST_BYTES {
+    let text = document.text.as_bytes();
+    if text.len() > MOST_BYTES {
         return Ok(None);
     }
-    let made = formatted(alloc, document.text.as_bytes())?;
+    let made = if document.is_source() {
+        match tkv_format::formatted(alloc, text) {
+            Ok(made) => made,
+            Err(_) => return Ok(None),
+        }
+    } else {
+        formatted(alloc, text)?
+    };
     Ok(String::from_utf8(made).ok())
 }
 

@@ -78,6 +78,29 @@ fn put_source(
     )
 }
 
+/// The warnings about a source.
+fn put_warnings(
+    alloc: Global,
+    out: &mut JsonLines,
+    image: &Runnable<'_>,
+) -> Result<(), AllocError> {
+    for warning in &image.told {
+        let finding = Finding {
+            marks: marks_of(&image.marks),
+            severity: Severity::Warning,
+            file: image.path,
+            line: Some(warning.line),
+            column: None,
+            at: None,
+            cause: None,
+            cure: None,
+            message: &warning.sentence,
+        };
+        put_finding(alloc, out, &finding)?;
+    }
+    Ok(())
+}
+
 /// Writes what is wrong with an image that was read, as `put_judged`, or why none was read: each fault of a text or of a source. Nothing for
 /// another fault of reading. Returns the image and its first refusal, or the fault.
 pub fn put_read<'a>(
@@ -89,6 +112,9 @@ pub fn put_read<'a>(
     let fault = match read {
         Ok(image) => {
             let reject = put_judged(alloc, out, &source_of(&image, wanted), &image.image)?;
+            if wanted.warnings {
+                put_warnings(alloc, out, &image)?;
+            }
             return Ok(Judged { image, reject });
         }
         Err(fault) => fault,

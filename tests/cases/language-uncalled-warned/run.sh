@@ -25,6 +25,8 @@ said --diagnostics check main.tkv
 said --diagnostics call main.tkv main 4
 said --diagnostics --no-warnings check main.tkv
 said check main.tkv
+said check main.tkv --json
+said check main.tkv --json --no-warnings
 said --diagnostics asm main.tkv main.image
 echo 'fn part(n) -> m { return k; }' >part.tkv
 said --diagnostics check main.tkv
