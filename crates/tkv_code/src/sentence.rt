@@ -9,7 +9,7 @@ use tkv_syntax::{Fault, LIBRARY, Name, Why, Word, name_at, place_of};
 /// The sentence of each fault, in the order of `Why`. `@` stands for the name at the fault's offset, `~` for the name at its other offset,
 /// `^` for the line of that, `#` for the number, `$` for the word, and `%` for what a call may have meant, or how it is written, or for the names
 /// that hold words.
-static SENTENCES: [(Why, &str); 75] = [
+static SENTENCES: [(Why, &str); 77] = [
     (Why::Memory, "memory is refused"),
     (Why::TooLong, "a source has at most 1,048,576 bytes"),
     (
@@ -104,6 +104,10 @@ static SENTENCES: [(Why, &str); 75] = [
     (
         Why::Twice,
         "@ is already a name, since line ^: choose another one",
+    ),
+    (
+        Why::TwiceSet,
+        "@ is twice in this list of names: name each word once",
     ),
     (
         Why::InLibrary,
@@ -221,11 +225,15 @@ static SENTENCES: [(Why, &str); 75] = [
     ),
     (
         Why::Values,
-        "the call gives more or fewer values than are named here: docs/INSTRUCTIONS.md says how many",
+        "name as many words as the right side gives, so # here, as in let x, y = f(3)",
+    ),
+    (
+        Why::Several,
+        "@ returns # words, so it cannot be part of a value: name them first, as in let x, y = @(..)",
     ),
     (
         Why::Returns,
-        "a routine with -> returns one value on every path, and a routine without -> returns none",
+        "each path of a routine returns one value for each name after ->, so # here",
     ),
     (
         Why::CallsItself,

@@ -39,7 +39,7 @@ impl Placer {
         match self.innermost_routine(at) {
             Some(running) if running.refusable => running.fails,
             Some(running) => {
-                if running.gives {
+                if running.gives != 0 {
                     self.refuse(Why::NoWayOut, at);
                 }
                 running.level
@@ -75,19 +75,19 @@ impl Placer {
         self.leave(to, at);
     }
 
-    /// `return`, with the result of the routine if it has one.
+    /// `return`, with the results of the routine.
     pub(crate) fn give_back(&mut self, item: &Item) {
         let at = item.at;
         let Some(running) = self.innermost_routine(at) else {
             return;
         };
-        if running.gives != (item.a != 0) {
-            return self.refuse(Why::Returns, at);
+        if u32::from(running.gives) != item.a {
+            return self.refuse_returns(running.gives, at);
         }
-        if running.gives {
-            let operand = self.operand(0, at);
-            self.move_to(operand, running.register, at);
+        if self.operand_count() != usize::from(running.gives) {
+            return self.refuse(Why::ExpectedValue, at);
         }
+        self.move_results(&running, at);
         self.clear();
         self.leave(running.level, at);
     }

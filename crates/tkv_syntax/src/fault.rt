@@ -65,6 +65,8 @@ pub enum Why {
     ExpectedLock,
     /// A name is used twice; `other` is its first place.
     Twice,
+    /// A name is twice in a list of names that a value sets.
+    TwiceSet,
     /// The name is that of a routine of the library, which the source uses.
     InLibrary,
     /// The name is that of an instruction.
@@ -126,9 +128,11 @@ pub enum Why {
     PastEnd,
     /// A value is dropped.
     Dropped,
-    /// The call gives a different number of values.
+    /// The value gives a different number of words; `number` is how many.
     Values,
-    /// A routine with a result does not return one here, or one without a result does.
+    /// A call that gives several words is part of a value; `number` is how many words it gives.
+    Several,
+    /// A routine does not return all of its results here, or more; `number` is how many it has.
     Returns,
     /// A routine calls itself.
     CallsItself,

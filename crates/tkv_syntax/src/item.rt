@@ -33,7 +33,7 @@ pub enum ItemKind {
     End,
     /// Names value `a` of `b`; no value, if `b` is 0.
     Let,
-    /// Sets the name.
+    /// Sets the name to value `a` of `b`.
     Assign,
     /// Sets the field, as `Field` reads it: to the value before it, or, if `c` is not 0, to the `c` bytes of a string. Each number before it then
     /// has two bytes, the first one in its low half.
@@ -87,7 +87,7 @@ pub enum ItemKind {
     Return,
 
     // Declarations.
-    /// A routine: `a` is the sum of 1 for `pub`, 4 if it may be refused, 8 if it has a result; `b` is how many parameters follow.
+    /// A routine: `a` is the sum of 1 for `pub`, 4 if it may be refused, 8 for each result; `b` is how many parameters follow.
     Fn,
     /// A word: `a` is 1 if the routine sets it, `b` is the constant that it is at most.
     WordParam,

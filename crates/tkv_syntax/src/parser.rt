@@ -70,7 +70,7 @@ pub(crate) struct Parser {
 
 impl Parser {
     /// Keeps a fault, if it is the first one.
-    fn refuse_with(&mut self, fault: Fault) {
+    pub(crate) fn refuse_with(&mut self, fault: Fault) {
         if self.fault.is_none() {
             self.fault = Some(fault);
             self.token.word = Word::End;
@@ -273,6 +273,18 @@ impl Parser {
         0
     }
 
+    /// The results of a routine; how many there are.
+    fn results(&mut self) -> u32 {
+        for count in 1..8 {
+            self.expect(Word::Named);
+            if !self.takes(Word::Comma) {
+                return count;
+            }
+        }
+        self.refuse(Why::ManyParameters, self.token.at);
+        0
+    }
+
     /// A routine up to its first statement.
     fn header(&mut self) {
         let public = self.takes(Word::Pub);
@@ -282,14 +294,14 @@ impl Parser {
         let at = self.expect(Word::Named);
         self.put_plain(ItemKind::Fn, at);
         let parameters = self.parameters();
-        let gives = self.takes(Word::Arrow);
-        if gives {
-            self.expect(Word::Named);
-            self.bound();
-        }
+        let results = if self.takes(Word::Arrow) {
+            self.results()
+        } else {
+            0
+        };
         let refusable = self.takes(Word::Asks);
         self.routine = start;
-        let flags = u32::from(public) + 4 * u32::from(refusable) + 8 * u32::from(gives);
+        let flags = u32::from(public) + 4 * u32::from(refusable) + 8 * results.min(7);
         self.amend(start, flags, parameters);
         self.body = self.items.len();
         self.put_plain(ItemKind::Body, at);

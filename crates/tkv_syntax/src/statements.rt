@@ -1,6 +1,6 @@
 //! Statements.
 
-use crate::fault::Why;
+use crate::fault::{Fault, Why};
 use crate::item::{Item, ItemKind, NONE};
 use crate::parser::{Parser, Part};
 use crate::token::character;
@@ -11,6 +11,16 @@ const MOST_TEXT: u32 = 64;
 
 /// What `why` is after a false assertion.
 const ASSERTED: u32 = 16;
+
+/// The most names that a value has.
+const MOST_NAMES: u32 = 7;
+
+/// Names of words that one value sets: their offsets.
+#[derive(Clone, Copy)]
+struct Names {
+    at: [u32; 7],
+    count: u32,
+}
 
 impl Parser {
     /// Says of the parameter of this name, if the routine has one, that it is set.
@@ -53,6 +63,10 @@ impl Parser {
             Word::As => self.lock(),
             Word::Set => {
                 self.assignment();
+                self.finish(start);
+            }
+            Word::Comma => {
+                self.several();
                 self.finish(start);
             }
             Word::Named | Word::Number | Word::Brace => {
@@ -114,7 +128,7 @@ impl Parser {
         match target.kind {
             ItemKind::Named => {
                 self.note_set(target.at);
-                self.put_plain(ItemKind::Assign, target.at);
+                self.add(ItemKind::Assign, target.at, 0, 1);
             }
             ItemKind::Field => self.add(ItemKind::Store, target.at, target.a, target.b),
             _ => self.refuse(Why::NotSettable, target.at),
@@ -149,18 +163,48 @@ impl Parser {
         self.enter(part, ItemKind::LockEnd);
     }
 
-    /// Names of words, and what they are.
-    fn binding(&mut self, start: usize) {
-        self.expect(Word::Let);
-        let mut names = [0; 7];
-        let mut count: u32 = 0;
-        for k in 0..7 {
-            names[k as usize] = self.expect(Word::Named);
-            count = k + 1;
+    /// Adds a name to a list, if it is not there already.
+    fn add_name(&mut self, names: &mut Names, at: u32) {
+        let name = name_at(&self.text, at);
+        for k in 0..names.count.min(MOST_NAMES) {
+            if name_at(&self.text, names.at[k as usize]) == name {
+                self.refuse(Why::TwiceSet, at);
+            }
+        }
+        if names.count < MOST_NAMES {
+            names.at[names.count as usize] = at;
+            names.count += 1;
+        }
+    }
+
+    /// The names of a list, from the first one on, which has been taken.
+    fn names(&mut self, first: u32) -> Names {
+        let mut names = Names {
+            at: [first; 7],
+            count: 1,
+        };
+        for _ in 1..MOST_NAMES {
             if !self.takes(Word::Comma) {
                 break;
             }
+            let at = self.expect(Word::Named);
+            self.add_name(&mut names, at);
         }
+        names
+    }
+
+    /// Adds an item for each name of a list, for a value that gives so many words.
+    fn put_names(&mut self, kind: ItemKind, names: &Names, values: u32) {
+        for k in 0..names.count.min(MOST_NAMES) {
+            self.add(kind, names.at[k as usize], k, values);
+        }
+    }
+
+    /// Names of words, and what they are.
+    fn binding(&mut self, start: usize) {
+        self.expect(Word::Let);
+        let first = self.expect(Word::Named);
+        let names = self.names(first);
         if self.is(Word::Colon) {
             self.refuse_word(Word::Set);
         }
@@ -168,13 +212,27 @@ impl Parser {
         if valued {
             self.value();
         }
-        let values = if valued { count } else { 0 };
-        for k in 0..7 {
-            if k < count {
-                self.add(ItemKind::Let, names[k as usize], k, values);
-            }
-        }
+        let values = if valued { names.count } else { 0 };
+        self.put_names(ItemKind::Let, &names, values);
         self.finish(start);
+    }
+
+    /// What sets several names, of which the last item is the first.
+    fn several(&mut self) {
+        let first = self.retract(Why::NotSettable);
+        if !matches!(first.kind, ItemKind::Named) {
+            return self.refuse_with(Fault {
+                word: Word::Named,
+                ..Fault::new(Why::Expected, first.at)
+            });
+        }
+        let names = self.names(first.at);
+        self.expect(Word::Set);
+        self.value();
+        for k in 0..names.count.min(MOST_NAMES) {
+            self.note_set(names.at[k as usize]);
+        }
+        self.put_names(ItemKind::Assign, &names, names.count);
     }
 
     /// Outputs words.
@@ -222,13 +280,19 @@ impl Parser {
         }
     }
 
-    /// `fail` or `return`, with a value if one follows.
+    /// `fail`, with a value if one follows, or `return` with those that follow.
     fn valued(&mut self, kind: ItemKind, at: u32) {
-        let valued = !self.is(Word::Stop);
-        if valued {
-            self.value();
+        let mut count: u32 = 0;
+        if !self.is(Word::Stop) {
+            for k in 1..9 {
+                self.value();
+                count = k;
+                if matches!(kind, ItemKind::Fail) || !self.takes(Word::Comma) {
+                    break;
+                }
+            }
         }
-        self.add(kind, at, u32::from(valued), 0);
+        self.add(kind, at, count, 0);
     }
 
     fn conditional(&mut self) {
