@@ -15,10 +15,10 @@ MOST_WORDS = 1_024
 
 
 class Leave(Exception):
-    """A `break`, `continue` or `return`, with its value."""
+    """A `break`, `continue` or `return`, with its values."""
 
-    def __init__(self, kind: str, value: int | None = None) -> None:
-        self.kind, self.value = kind, value
+    def __init__(self, kind: str, values: list[int] | None = None) -> None:
+        self.kind, self.values = kind, values or []
 
 
 class Fail(Exception):
@@ -126,8 +126,9 @@ class Program:
                 block.locks -= 1
         return [str(word) for word in self.output]
 
-    def routine(self, routine: Tree, scope: Scope) -> int | None:
-        """Runs a routine. A refusal goes to its handler, then to the caller if the routine may be refused; otherwise it ends it."""
+    def routine(self, routine: Tree, scope: Scope) -> list[int]:
+        """Runs a routine, which returns words. A refusal goes to its handler, then to the caller if the routine may be refused; otherwise it
+        ends it."""
         tests, self.tests = self.tests, False
         try:
             try:
@@ -137,15 +138,18 @@ class Program:
                     raise
                 self.run(routine.handler, [scope])
         except Leave as leave:
-            return leave.value
+            return self.returned(routine, leave.values)
         except Fail:
             if routine.fails or routine.public:
                 raise
-            if routine.result is not None:
-                raise Wrong("a refusal leaves a routine with a result") from None
         finally:
             self.tests = tests
-        return None
+        return self.returned(routine, [])
+
+    def returned(self, routine: Tree, values: list[int]) -> list[int]:
+        if len(values) != len(routine.results):
+            raise Wrong(f"{routine.name} returns {len(values)} words")
+        return values
 
     def run(self, statements: list[Tree], scopes: list[Scope]) -> None:
         inner = [*scopes, {}]
@@ -171,19 +175,27 @@ class Program:
         finally:
             self.tests = tests
 
-    do_let = do_set = do_write = do_do = do_out = ended
+    do_let = do_set = do_several = do_write = do_do = do_out = ended
 
     def end_let(self, statement: Tree, scopes: list[Scope]) -> None:
         scopes[-1].update(dict.fromkeys(statement.names))
         if statement.value is not None:
             values = self.values(statement.value, scopes)
-            scopes[-1].update(zip(statement.names, values))
+            scopes[-1].update(zip(statement.names, values, strict=True))
+
+    def end_several(self, statement: Tree, scopes: list[Scope]) -> None:
+        values = self.values(statement.value, scopes)
+        for name, value in zip(statement.names, values, strict=True):
+            self.scope_of(name, scopes)[name] = value
+
+    def scope_of(self, name: str, scopes: list[Scope]) -> Scope:
+        return next(scope for scope in reversed(scopes) if name in scope)
 
     def end_set(self, statement: Tree, scopes: list[Scope]) -> None:
         place = statement.place
         if place.kind == "name":
-            value = self.values(statement.value, scopes)[0]
-            next(s for s in reversed(scopes) if place.name in s)[place.name] = value
+            (value,) = self.values(statement.value, scopes)
+            self.scope_of(place.name, scopes)[place.name] = value
         else:
             self.reach(place, scopes, self.word(statement.value, scopes))
 
@@ -215,7 +227,7 @@ class Program:
         raise Leave("continue")
 
     def do_return(self, statement: Tree, scopes: list[Scope]) -> None:
-        raise Leave("return", None if statement.value is None else self.word(statement.value, scopes))
+        raise Leave("return", [self.word(value, scopes) for value in statement.values])
 
     def do_fail(self, statement: Tree, scopes: list[Scope]) -> None:
         if statement.value is not None:
@@ -375,15 +387,15 @@ class Program:
         if tree.name in ("deref", "caelt"):
             return [self.fetched(tree, scopes)]
         if tree.name in self.routines:
-            return [self.inner(tree, scopes)]
+            return self.inner(tree, scopes)
         try:
             result = self.kernel(tree, scopes)
         except Refused as refused:
             self.refuse(refused, tree.asks)
-        return list(result) if isinstance(result, tuple) else [result]
+        return list(result) if isinstance(result, tuple) else [] if result is None else [result]
 
-    def inner(self, tree: Tree, scopes: list[Scope]) -> int | None:
-        """The result of a routine of the source."""
+    def inner(self, tree: Tree, scopes: list[Scope]) -> list[int]:
+        """The results of a routine of the source."""
         routine, scope = self.routines[tree.name], {}
         for argument, parameter in zip(tree.arguments, routine.parameters):
             if parameter.kind == "word":
@@ -440,10 +452,10 @@ class Program:
             return self.reach(tree, scopes, None)
         if tree.kind == "operation":
             return OPERATORS[tree.sign](self.word(tree.left, scopes), self.word(tree.right, scopes)) % 65_536
-        found = self.named(tree, scopes) if tree.kind == "name" else self.values(tree, scopes)[0]
-        if not isinstance(found, int):
+        found = [self.named(tree, scopes)] if tree.kind == "name" else self.values(tree, scopes)
+        if len(found) != 1 or not isinstance(found[0], int):
             raise Wrong(f"{tree.name} is no word that is set")
-        return found
+        return found[0]
 
     def holds(self, tree: Tree, scopes: list[Scope]) -> bool:
         if tree.kind == "not":

@@ -25,7 +25,7 @@ class Known:
     blocks: dict[str, str] = field(default_factory=dict)
     pointers: dict[str, tuple[str, int, str]] = field(default_factory=dict)
     loops: int = 0
-    result: bool = False
+    results: int = 0
     fails: bool = True
     why: bool = False
     below: dict[str, int] = field(default_factory=dict)
@@ -42,12 +42,12 @@ class Known:
 
 @dataclass
 class Routine:
-    """A routine that can be called: its parameters, each `word`, `constant`, a kind of block or `pointer`, and whether it has a result or is
-    refused."""
+    """A routine that can be called: its parameters, each `word`, `constant`, a kind of block or `pointer`, how many results it has, and whether
+    it is refused."""
 
     name: str
     parameters: list[str]
-    result: bool
+    results: int
     fails: bool
 
 
@@ -70,7 +70,8 @@ def called(text: str) -> str:
             elif parameter.kind == "pointer":
                 lines.append(f"let {parameter.name} = deref({parameter.block}, 16, Pair)?;")
         call = f"{head.name}({', '.join(names)}){'?' if head.fails else ''}"
-        lines.append(f"out({call})?;" if head.result else f"{call};")
+        words = ", ".join(f"r{k}" for k in range(len(head.results)))
+        lines.append(f"let {words} = {call};\nout({words})?;" if words else f"{call};")
         ends = "}" * sum(parameter.kind == "block" for parameter in head.parameters)
         callers.append(f"pub fn {head.name}_called(a) {{\n" + "\n".join(lines) + f"\n{ends}\n}}\n")
     return text + "\n".join(callers)
@@ -126,13 +127,17 @@ class Writer:
                 known = replace(known, pointers={pointer: (block, 8, "Pair")})
                 written.append(f"{pointer}: Pair in {block}")
                 kinds.append("pointer")
-        result = self.chance(0.5)
-        known = replace(known, result=result, fails=result or self.chance(0.4))
+        results = self.pick([0, 0, 0, 1, 1, 2, 2, 3])
+        known = replace(known, results=results, fails=results > 0 or self.chance(0.4))
         body, after = self.statements(known, self.number(1, 3), 2)
-        if result:
-            body += f"\nreturn {self.value(after, 1)};"
-        self.routines.append(Routine(name, kinds, result, known.fails))
-        return f"fn {name}({', '.join(written)}){' -> r' if result else ''}{' ?' if known.fails else ''} {{\n{body}\n}}\n"
+        if results:
+            body += f"\n{self.returned(after, 1)}"
+        self.routines.append(Routine(name, kinds, results, known.fails))
+        gives = " -> " + ", ".join(f"r{k}" for k in range(results)) if results else ""
+        return f"fn {name}({', '.join(written)}){gives}{' ?' if known.fails else ''} {{\n{body}\n}}\n"
+
+    def returned(self, known: Known, depth: int) -> str:
+        return f"return {', '.join(self.value(known, depth) for _ in range(known.results))};" if known.results else "return;"
 
     def public(self, n: int) -> str:
         lent = self.chance(0.2)
@@ -174,7 +179,7 @@ class Writer:
             block = self.pick(known.blocks)
             return f"{self.pick(['lsize', 'lsize', 'cacount'])}({block}, {self.pick(['16', '16', '18', self.word(known)])})?"
         if form == "call":
-            return self.call(known, True) or self.word(known)
+            return self.call(known, 1) or self.word(known)
         return self.word(known)
 
     def changing(self, known: Known, depth: int) -> str:
@@ -210,8 +215,8 @@ class Writer:
         index = self.pick([self.index(known), f"({self.word(known)} & 1)", self.word(known)])
         return f"{name}.pairs[{index}]{self.pick([*within, f'.more[{self.index(known)}]', f'.b[{self.word(known)}]'])}?"
 
-    def call(self, known: Known, result: bool) -> str | None:
-        fitting = [r for r in self.routines if r.result == result]
+    def call(self, known: Known, results: int) -> str | None:
+        fitting = [r for r in self.routines if r.results == results]
         self.random.shuffle(fitting)
         for routine in fitting:
             arguments = self.arguments(routine, known)
@@ -264,7 +269,7 @@ class Writer:
         return "\n".join(lines), known
 
     def statement(self, known: Known, depth: int) -> tuple[str, Known]:
-        forms = ["out"] * 3 + ["let", "let", "set", "set", "called", "file", "item"]
+        forms = ["out"] * 3 + ["let", "let", "set", "set", "called", "several", "file", "item"]
         if depth < 4:
             forms += ["branch", "branch", "attempt", "scope", "count", "repeat", "lock", "lock", "lock"]
         if known.blocks:
@@ -312,7 +317,7 @@ class Writer:
 
     def leave(self, known: Known) -> str:
         leaves = ["break;", "break;", "continue;"] if known.loops else []
-        leaves.append(f"return {self.value(known, 0)};" if known.result else "return;")
+        leaves.append(self.returned(known, 0))
         if known.fails:
             leaves.append(f"fail {self.number(1, 30)};")
         return self.pick(leaves)
@@ -374,8 +379,24 @@ class Writer:
         return f"{call} as {names} {{\n{body}\n}} else {{\n{other}\n}}", self.after(known)
 
     def called(self, known: Known, depth: int) -> tuple[str, Known]:
-        call = self.call(known, False)
-        return (f"{call};", self.after(known)) if call else self.out(known, depth)
+        call = self.call(known, 0)
+        return (f"{call};", self.after(known)) if call else self.several(known, depth)
+
+    def several(self, known: Known, depth: int) -> tuple[str, Known]:
+        """Names or sets the words that a call returns."""
+        count = self.pick([2, 2, 3])
+        call = self.call(known, count)
+        if call is None:
+            call, count = "igetmap()", 2
+        able = [w for w in known.words if w not in known.fixed]
+        if len(able) >= count and self.chance(0.6):
+            text = f"{', '.join(self.random.sample(able, count))} = {call}"
+            handled = call.endswith("?") and self.chance(0.4)
+            return self.ended(text[:-1], known, depth) if handled else f"{text};", self.after(known)
+        if len(known.words) > 3:
+            return self.out(known, depth)
+        names = [self.fresh("x") for _ in range(count)]
+        return f"let {', '.join(names)} = {call};", self.after(known.with_word(*names))
 
     def chunk_of(self, known: Known) -> str:
         return self.pick(["16", "16", "16", "18", self.word(known)])

@@ -133,12 +133,10 @@ class Reader:
         name = self.name()
         self.expect("(")
         parameters = self.listed(self.parameter, ")")
-        result = bound = None
-        if self.take("->"):
-            result = self.name()
-            if self.take("<="):
-                bound = self.operation(3)
-        parts = {"name": name, "public": public, "parameters": parameters, "result": result, "bound": bound}
+        results = []
+        while self.take("," if results else "->"):
+            results.append(self.name())
+        parts = {"name": name, "public": public, "parameters": parameters, "results": results}
         parts |= {"fails": self.take("?"), "body": self.block(), "handler": self.block() if self.take("else") else None}
         return Tree("routine", parts)
 
@@ -198,14 +196,16 @@ class Reader:
     def simple(self) -> Tree:
         """A statement that a handler may follow."""
         if self.take("let"):
-            names = [self.name()]
-            while self.take(","):
-                names.append(self.name())
+            names = self.names(self.name())
             return Tree("let", {"names": names, "value": self.value() if self.take("=") else None})
         if self.take("out"):
             self.expect("(")
             return Tree("out", {"values": self.listed(self.value, ")"), "asks": self.take("?")})
         value = self.value()
+        if self.has(",") and value.kind == "name":
+            names = self.names(value.name)
+            self.expect("=")
+            return Tree("several", {"names": names, "value": self.value()})
         if self.take("as"):
             names = [self.name()]
             if self.take(","):
@@ -218,6 +218,15 @@ class Reader:
                 return Tree("write", {"place": value, "text": written})
             return Tree("set", {"place": value, "value": self.value()})
         return Tree("do", {"call": value})
+
+    def names(self, first: str) -> list[str]:
+        """Names of words, of which the first is read."""
+        names = [first]
+        while self.take(","):
+            names.append(self.name())
+        if len(set(names)) < len(names):
+            raise ValueError(f"one of {names} is there twice")
+        return names
 
     def ended(self, statement: Tree) -> Tree:
         """The statement with its handler, if it has one, and its semicolon."""
@@ -244,7 +253,12 @@ class Reader:
         if kind not in LEAVES:
             raise ValueError(f"expected a leave, found {kind}")
         value = None if self.has(";") or kind in ("break", "continue") else self.value()
-        return Tree(kind, {"value": value})
+        if kind != "return":
+            return Tree(kind, {"value": value})
+        values = [] if value is None else [value]
+        while values and self.take(","):
+            values.append(self.value())
+        return Tree(kind, {"values": values})
 
     # Values and conditions, which have one grammar here.
 
