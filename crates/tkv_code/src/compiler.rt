@@ -11,7 +11,7 @@ use geos_infer::{FindError, find_image};
 use geos_verify::{Checked, Reject, check};
 use std::alloc::{AllocError, Global};
 use tkv_checks::first_other;
-use tkv_places::{Declared, Placed, SourceTest, check_routine, declare, place_routine};
+use tkv_places::{Declared, Placed, SourceTest, declare, place_routine};
 use tkv_syntax::{Fault, ItemKind, Name, Why, name_at, parse_source};
 
 /// What a source is compiled to.
@@ -133,7 +133,8 @@ fn checked_alone(
         if let Some(item) = declared.items().get(*index) {
             places.push(item.at)?;
         }
-        declared = check_routine(alloc, declared, *index)?;
+        let routine = place_routine(alloc, declared, *index)?;
+        declared = routine.declared;
     }
     Ok(places)
 }

@@ -1,4 +1,4 @@
-//! A public routine, placed.
+//! A routine, placed.
 
 use crate::declarations::Declared;
 use crate::names::value;
@@ -12,6 +12,9 @@ use tkv_syntax::{Fault, Item, ItemKind, NONE, Why};
 
 /// The most items that are gone over for a routine, with those of the routines that it calls.
 const MOST_STEPS: u32 = 4_194_304;
+
+/// The most for one that is not called.
+const MOST_UNCALLED: u32 = 262_144;
 
 /// A placed routine.
 #[derive(Drop)]
@@ -30,7 +33,7 @@ pub(crate) fn outermost(routine: usize, level: u16) -> Running {
         level,
         refusable: false,
         fails: NOWHERE,
-        gives: false,
+        gives: 0,
         register: 0,
         back: 0,
         base: 0,
@@ -67,7 +70,7 @@ impl Placer {
     /// The routine of an item begins.
     fn begin_routine(&mut self, index: usize, head: &Item) -> Row {
         let mut entry = Row::open();
-        if head.a & 12 != 0 {
+        if head.a >= 4 {
             self.refuse(Why::Public, head.at);
             return entry;
         }
@@ -96,8 +99,9 @@ impl Placer {
             self.return_inlined(at);
             return false;
         }
-        if self.state.alive && self.running.last().is_some_and(|call| call.gives) {
-            self.refuse(Why::Returns, at);
+        let gives = self.running.last().map_or(0, |call| call.gives);
+        if self.state.alive && gives != 0 {
+            self.refuse_returns(gives, at);
         }
         self.finish(at);
         self.end(at);
@@ -220,7 +224,8 @@ impl Placer {
     }
 }
 
-/// Places a public routine of a program, by the item that declares it.
+/// Places a routine of a program, by the item that declares it: a public one, or one that is not called. Of the latter only what any call would
+/// meet is a fault.
 pub fn place_routine(
     alloc: Global,
     declared: Declared,
@@ -230,8 +235,13 @@ pub fn place_routine(
         return Err(Fault::new(Why::NoRoutine, 0));
     };
     let mut placer = Placer::new(alloc, declared);
-    let entry = placer.begin_routine(index, &head);
-    placer.place_items(head.at, MOST_STEPS);
+    let public = head.a & 1 != 0;
+    let entry = if public {
+        placer.begin_routine(index, &head)
+    } else {
+        placer.begin_uncalled(index, &head)
+    };
+    placer.place_items(head.at, if public { MOST_STEPS } else { MOST_UNCALLED });
     match placer.fault {
         Some(fault) => Err(fault),
         None => Ok(PlacedRoutine {

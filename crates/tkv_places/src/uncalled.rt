@@ -4,17 +4,15 @@
 
 ghost use Rattle.std.specs.Prelude.{◌<◌};
 
-use crate::declarations::Declared;
 use crate::placed::NOWHERE;
 use crate::placer::{Construct, Held, Meaning, Operand, Placer, Running, Sort};
+use crate::results::results_of;
 use crate::routine::outermost;
 use crate::state::{bit, fetched};
-use std::alloc::Global;
-use tkv_syntax::{Fault, Item, ItemKind, NUMBERS, Why};
+use geos_image::Row;
+use tkv_syntax::{Item, ItemKind, NUMBERS, Why};
 
-/// The most items that are gone over for such a routine, and for the last needs of its names.
-const MOST_STEPS: u32 = 262_144;
-
+/// The most items that are gone over for the last needs of its names.
 const MOST_EFFORT: u32 = 1_048_576;
 
 /// When a parameter gets its register: words that the routine does not set get w0, before all, and pointers follow their blocks.
@@ -75,7 +73,7 @@ impl Placer {
         if bytes < NUMBERS {
             return NOWHERE;
         }
-        match self.declared.find(&self.name(bytes - NUMBERS)) {
+        match self.declared.find(&self.declared.name(bytes - NUMBERS)) {
             Some(structure) => structure.index,
             None => NOWHERE,
         }
@@ -83,7 +81,7 @@ impl Placer {
 
     /// A pointer parameter, into the block of another one.
     fn given_pointer(&mut self, item: &Item) {
-        let block = self.symbol(&self.name(item.b));
+        let block = self.symbol(&self.declared.name(item.b));
         if !matches!(block.meaning, Meaning::Block) {
             return self.refuse(Why::NoBlock, item.b);
         }
@@ -95,33 +93,30 @@ impl Placer {
         self.declare(Meaning::Pointer, item.at, register, bytes, structure);
     }
 
-    /// A parameter of an uncalled routine.
-    fn given(&mut self, item: &Item) {
-        match item.kind {
-            ItemKind::WordParam if item.a == 0 => self.given_word(item.at),
-            ItemKind::WordParam => {
-                self.own_word(item.at);
-            }
-            ItemKind::BlockParam => self.given_block(item),
-            _ => self.given_pointer(item),
-        }
-    }
-
     /// The parameters of an uncalled routine.
     fn given_parameters(&mut self, index: usize, count: usize, at: u32) {
         for pass in 0..3 {
             for k in 0..count {
-                if let Some(item) = self.parameter(index, k, at)
-                    && pass_of(&item) == pass
-                {
-                    self.given(&item);
+                let Some(item) = self.parameter(index, k, at) else {
+                    return;
+                };
+                if pass_of(&item) != pass {
+                    continue;
+                }
+                match item.kind {
+                    ItemKind::WordParam if item.a == 0 => self.given_word(item.at),
+                    ItemKind::WordParam => {
+                        self.own_word(item.at);
+                    }
+                    ItemKind::BlockParam => self.given_block(&item),
+                    _ => self.given_pointer(&item),
                 }
             }
         }
     }
 
     /// The uncalled routine of an item begins, within a block to whose end its refusals go.
-    fn begin_uncalled(&mut self, index: usize, head: &Item) {
+    pub(crate) fn begin_uncalled(&mut self, index: usize, head: &Item) -> Row {
         let count = head.b.min(8) as usize;
         self.effort = MOST_EFFORT;
         self.next = index.saturating_add(1).saturating_add(count);
@@ -134,25 +129,11 @@ impl Placer {
             Running {
                 refusable: head.a & 4 != 0,
                 fails,
-                gives: head.a & 8 != 0,
+                gives: results_of(head),
                 ..outermost(index, level)
             },
             head.at,
         );
-    }
-}
-
-/// The fault of a routine that is not public, if it has one, by the item that declares the routine. Only what any call of it would meet is a
-/// fault. Otherwise the program is returned.
-pub fn check_routine(alloc: Global, declared: Declared, index: usize) -> Result<Declared, Fault> {
-    let Some(head) = declared.item(index) else {
-        return Err(Fault::new(Why::NoRoutine, 0));
-    };
-    let mut placer = Placer::new(alloc, declared);
-    placer.begin_uncalled(index, &head);
-    placer.place_items(head.at, MOST_STEPS);
-    match placer.fault {
-        Some(fault) => Err(fault),
-        None => Ok(placer.declared),
+        Row::open()
     }
 }
