@@ -114,7 +114,7 @@ impl Placer {
 
     /// Goes on to a field, or to `w` or `b` with an index.
     fn reach(&mut self, item: &Item, target: &mut Target) {
-        let name = self.name(item.at);
+        let name = self.declared.name(item.at);
         let mut many = true;
         match self.declared.field(target.structure, &name) {
             Some(field) => {
@@ -268,7 +268,7 @@ impl Placer {
     /// Goes on to a field for a string, which is to be an array of bytes with room for that. Returns the index before it.
     fn reach_string(&mut self, item: &Item, target: &mut Target) -> Operand {
         let at = item.at;
-        let name = self.name(at);
+        let name = self.declared.name(at);
         match self.declared.field(target.structure, &name) {
             Some(field) => {
                 let bytes = field.many && field.bytes == 1 && field.structure == NOWHERE;
@@ -351,7 +351,7 @@ impl Placer {
 
     /// `STRUCTURE.size`, or where a field begins.
     fn structure_constant(&mut self, item: &Item, structure: Operand) {
-        let name = self.name(item.at);
+        let name = self.declared.name(item.at);
         let number = match self.declared.field(structure.structure, &name) {
             Some(field) => field.offset,
             None => {

@@ -147,16 +147,12 @@ impl Placer {
         let Some(placed) = self.placed.last_mut() else {
             return false;
         };
-        let (in_a, in_b) = fields;
-        let moves_a = in_a && !in_b && placed.instr.a == from;
-        let moves_b = in_b && !in_a && placed.instr.b == from;
-        if moves_a {
-            placed.instr.a = to;
+        match fields {
+            (true, false) if placed.instr.a == from => placed.instr.a = to,
+            (false, true) if placed.instr.b == from => placed.instr.b = to,
+            _ => return false,
         }
-        if moves_b {
-            placed.instr.b = to;
-        }
-        moves_a || moves_b
+        true
     }
 
     /// The last placed item has its result in another word, if it is an instruction with its result in this one.

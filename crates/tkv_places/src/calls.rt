@@ -2,7 +2,7 @@
 
 use crate::declarations::{is_call, is_lock, opcode_named};
 use crate::names::value;
-use crate::placed::bare;
+use crate::placed::{NOWHERE, bare};
 use crate::placer::{Held, Operand, Placer, Sort};
 use crate::state::fetched;
 use geos_image::Instr;
@@ -122,27 +122,19 @@ impl Placer {
         }
     }
 
-    /// The pointers that a call makes stale.
-    fn moved(&mut self, instr: &Instr, at: u32) {
-        match instr.opcode.uses().slot {
-            SlotUse::Moves => self.lose_into(instr.a, at),
-            SlotUse::MovesGroup => self.lose_groups(at),
-            _ => {}
-        }
-    }
-
-    /// Places a call, with a way for its refusal.
+    /// Places a call, with a way for its refusal, and makes the pointers stale that it moves.
     fn called(&mut self, instr: Instr, asks: bool, at: u32) {
-        if instr.opcode.operands().refusable {
-            let way = self.refusal_way(asks, at);
-            self.moved(&instr, at);
-            self.act_to(instr, way, at);
-        } else if asks {
-            self.refuse(Why::NotRefusable, at);
-        } else {
-            self.moved(&instr, at);
-            self.act(instr, at);
+        let refusable = instr.opcode.operands().refusable;
+        if asks && !refusable {
+            return self.refuse(Why::NotRefusable, at);
         }
+        let way = if refusable {
+            self.refusal_way(asks, at)
+        } else {
+            NOWHERE
+        };
+        self.lose_by(instr.opcode.uses().slot, instr.a, at);
+        self.act_to(instr, way, at);
     }
 
     /// A call of the kernel, whose arguments are the last values. What it gives takes their place.
@@ -193,12 +185,13 @@ impl Placer {
         if in_b {
             made.b = self.push_result(at);
         }
+        self.check_several(u8::from(in_a) + u8::from(in_b), at);
         self.called(made, asks, at);
     }
 
     /// A call: of the kernel, or of a routine.
     pub(crate) fn call(&mut self, item: &Item) {
-        let name = self.name(item.at);
+        let name = self.declared.name(item.at);
         match opcode_named(&name) {
             Some(opcode) => self.kernel_call(item, opcode),
             None => self.routine_call(item, &name),

@@ -80,27 +80,20 @@ pub(crate) fn is_lock(opcode: Opcode) -> bool {
 
 /// The opcode that a call or a lock of this name stands for.
 pub(crate) fn opcode_named(name: &Name) -> Option<Opcode> {
-    let mut word = [0; 16];
+    let mut word = *name;
     let mut length = 0;
     for k in 0..16 {
-        if name[k] == 0 {
-            break;
-        }
         if name[k].is_ascii_uppercase() {
             return None;
         }
-        word[k] = name[k].to_ascii_uppercase();
-        length = k + 1;
+        if name[k] != 0 {
+            word[k] = name[k].to_ascii_uppercase();
+            length = k + 1;
+        }
     }
     match Opcode::from_word(&word[..length.min(16)]) {
-        Some(opcode) => {
-            if is_call(opcode) || is_lock(opcode) {
-                Some(opcode)
-            } else {
-                None
-            }
-        }
-        None => None,
+        Some(opcode) if is_call(opcode) || is_lock(opcode) => Some(opcode),
+        _ => None,
     }
 }
 

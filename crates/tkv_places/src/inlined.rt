@@ -6,6 +6,7 @@ use crate::placed::NOWHERE;
 use crate::placer::{
     Construct, MOST_WORDS, Meaning, Operand, Placer, Running, Sort, Symbol, added,
 };
+use crate::results::results_of;
 use crate::state::bit;
 use tkv_syntax::{Item, ItemKind, Name, Why};
 
@@ -41,8 +42,9 @@ impl Placer {
 
     /// A parameter with a meaning, for an operand.
     fn stands_for(&mut self, item: &Item, meaning: Meaning, operand: &Operand) {
+        let name = self.declared.name(item.at);
         self.know(Symbol {
-            name: self.name(item.at),
+            name,
             at: item.at,
             meaning,
             register: operand.register,
@@ -156,15 +158,6 @@ impl Placer {
         self.asks = false;
     }
 
-    /// The word for the result of a routine, if it has one.
-    fn result_word(&mut self, gives: bool, count: usize, at: u32) -> u8 {
-        let register = if gives { self.lowest(count, at) } else { 0 };
-        if register >= MOST_WORDS {
-            self.refuse_words(at);
-        }
-        register
-    }
-
     /// A call of a routine, whose arguments are the last values: its statements follow.
     pub(crate) fn routine_call(&mut self, item: &Item, name: &Name) {
         let at = item.at;
@@ -181,13 +174,13 @@ impl Placer {
         if item.a != head.b || count > self.operand_count() {
             return self.refuse_for(Why::Arguments, at, at, head.b.min(255) as u16);
         }
-        let gives = head.a & 8 != 0;
+        let gives = results_of(&head);
         let running = Running {
             routine: routine.item,
             fails: self.fails_to(&head, item),
             refusable: head.a & 4 != 0,
             gives,
-            register: self.result_word(gives, count, at),
+            register: self.result_words(gives, count, at),
             level: self.block(at),
             back: self.next,
             base: self.base,
@@ -212,14 +205,14 @@ impl Placer {
         self.keep(kept, at);
     }
 
-    /// The end of an inlined routine: its result replaces the call, and the statements after the call follow.
+    /// The end of an inlined routine: its results replace the call, and the statements after the call follow.
     pub(crate) fn return_inlined(&mut self, at: u32) {
         let frame = self.finish(at);
         let Some(call) = self.running.pop() else {
             return self.refuse(Why::Unreached, at);
         };
-        if call.gives && self.state.alive {
-            return self.refuse(Why::Returns, at);
+        if call.gives != 0 && self.state.alive {
+            return self.refuse_returns(call.gives, at);
         }
         self.end(at);
         if !self.state.alive {
@@ -234,9 +227,12 @@ impl Placer {
         self.handler = call.handler;
         self.asks = call.asks;
         self.next = call.back;
-        if call.gives {
+        if call.gives != 0 {
             self.words = call.register;
+        }
+        for _ in 0..call.gives {
             self.push_result(frame.at);
         }
+        self.check_several(call.gives, frame.at);
     }
 }

@@ -45,20 +45,10 @@ impl Placer {
         }
     }
 
-    /// The way of a lock's refusal. If no `?` follows, its handler gets blocks: the number of the outermost.
-    fn lock_way(&mut self, item: &Item) -> (u16, u16) {
-        if item.c >= 256 {
-            return (NOWHERE, self.way_out(item.at));
-        }
-        let level = self.block(item.at);
-        let way = self.block(item.at);
-        (level, way)
-    }
-
     /// A block is locked for the statements that follow.
     pub(crate) fn lock(&mut self, item: &Item) {
         let at = item.at;
-        let Some(opcode) = opcode_named(&self.name(at)) else {
+        let Some(opcode) = opcode_named(&self.declared.name(at)) else {
             return self.refuse(Why::ExpectedLock, at);
         };
         let count = (item.c % 256) as usize;
@@ -71,7 +61,12 @@ impl Placer {
             return self.refuse_for(Why::Arguments, at, at, takes.min(255) as u16);
         }
         let slot = self.free_slot(at);
-        let (level, way) = self.lock_way(item);
+        // If no `?` follows, its handler gets blocks.
+        let (level, way) = if item.c >= 256 {
+            (NOWHERE, self.way_out(at))
+        } else {
+            (self.block(at), self.block(at))
+        };
         let locking = Locking {
             opcode,
             slot,

@@ -25,17 +25,25 @@ impl Counting {
         self.low.is_constant() && self.high.is_constant()
     }
 
-    /// The number that the word is always below: the one after the last one that is counted; 0 if it is not known.
-    fn limit(&self) -> u16 {
+    /// How many turns follow the first one if the number of turns is known, and there is one.
+    fn more(&self) -> Option<u16> {
         let span = self.high.value.saturating_sub(self.low.value);
         if !self.is_known() || span == 0 || self.step == 0 {
-            return 0;
+            return None;
         }
-        let more = (span - 1) / self.step;
-        self.low
-            .value
-            .saturating_add(more.saturating_mul(self.step))
-            .saturating_add(1)
+        Some((span - 1) / self.step)
+    }
+
+    /// The number that the word is always below: the one after the last one that is counted; 0 if it is not known.
+    fn limit(&self) -> u16 {
+        match self.more() {
+            Some(more) => self
+                .low
+                .value
+                .saturating_add(more.saturating_mul(self.step))
+                .saturating_add(1),
+            None => 0,
+        }
     }
 }
 
@@ -99,36 +107,21 @@ impl Placer {
         }
     }
 
-    /// A free word for the word that counts. It is not that of `high`, which is read after the word is set.
-    fn word_beside(&mut self, high: Operand, at: u32) -> u8 {
-        match self.freed_word() {
-            Some(register) if high.is_constant() || register != high.register => register,
-            _ => self.take_word(at),
-        }
-    }
-
     /// The word that counts, set to the value at which counting begins. The value at which it ends is read later if it is no constant.
     fn counting_word(&mut self, low: Operand, high: Operand, at: u32) -> u8 {
         let register = if low.is_temporary() && low.register < MOST_WORDS {
             low.register
         } else {
-            let register = self.word_beside(high, at);
+            let register = match self.freed_word() {
+                Some(register) if high.is_constant() || register != high.register => register,
+                _ => self.take_word(at),
+            };
             self.move_to(low, register, at);
             register
         };
         self.keep_word(register);
         self.state.facts |= bit(register);
         register
-    }
-
-    /// Turns whose number is known.
-    fn known_turns(&mut self, counting: &Counting, at: u32) {
-        let span = counting.high.value.saturating_sub(counting.low.value);
-        if span == 0 || counting.step == 0 {
-            return self.refuse(Why::NoTurn, at);
-        }
-        let more = (span - 1) / counting.step;
-        self.act(with_number(Opcode::Setk, counting.counter, 0, more), at);
     }
 
     /// Turns from one word to another. If the first is above the second, control leaves to the end of the block `level`.
@@ -146,8 +139,10 @@ impl Placer {
     /// Sets the counter and the word that counts, if one is to; which one.
     fn count_from(&mut self, counting: &Counting, level: u16, speaks: bool, at: u32) -> u8 {
         let low = counting.low;
-        if counting.is_known() {
-            self.known_turns(counting, at);
+        if let Some(more) = counting.more() {
+            self.act(with_number(Opcode::Setk, counting.counter, 0, more), at);
+        } else if counting.is_known() {
+            self.refuse(Why::NoTurn, at);
         } else if counting.step != 1 && self.given == 0 {
             self.refuse(Why::NoConstant, at);
         } else if low.is_constant() && low.value == 0 {

@@ -6,71 +6,62 @@ use crate::state::{fetched, pair};
 use geos_opcodes::SlotUse;
 use tkv_syntax::{Item, ItemKind};
 
-impl Placer {
-    /// A pointer is stale from here on.
-    fn lose(&mut self, pointer: u8, at: u32) {
-        if pointer < 4 && self.state.has(fetched(pointer)) {
-            self.lost[usize::from(pointer)] = Loss { by: at, lost: true };
-            self.state.facts &= !fetched(pointer);
-        }
-    }
+/// No slot, and each kind of blocks.
+const NO_SLOT: u8 = 255;
 
-    /// Chunks of the block of a slot may move, at a call there. The block may be that of another slot of its kind too.
-    pub(crate) fn lose_into(&mut self, slot: u8, at: u32) {
-        let kind = self.held(slot).kind();
+const ANY: u32 = 4;
+
+impl Placer {
+    /// Makes pointers stale at a place: those into the block of a slot, and those into blocks of this kind that may be the same.
+    fn lose(&mut self, slot: u8, kind: u32, at: u32) {
         for k in 0..4 {
             let into = self.leads[k];
-            let alias = self.held(into).kind() == kind && !self.state.has(pair(into, slot));
-            if into == slot || alias {
-                self.lose(k as u8, at);
+            let alike = kind == ANY || self.held(into).kind() == kind;
+            let moves = into == slot || alike && !self.state.has(pair(into, slot));
+            if moves && self.state.has(fetched(k as u8)) {
+                self.lost[k] = Loss { by: at, lost: true };
+                self.state.facts &= !fetched(k as u8);
             }
         }
     }
 
-    /// Items of groups may move.
-    pub(crate) fn lose_groups(&mut self, at: u32) {
-        for k in 0..4 {
-            if matches!(self.held(self.leads[k]), Held::Group) {
-                self.lose(k as u8, at);
-            }
-        }
-    }
-
-    fn lose_all(&mut self, at: u32) {
-        for k in 0..4 {
-            self.lose(k, at);
+    /// Chunks of blocks may move, at a call of an instruction on the block of a slot.
+    pub(crate) fn lose_by(&mut self, uses: SlotUse, slot: u8, at: u32) {
+        match uses {
+            SlotUse::Moves => self.lose(slot, self.held(slot).kind(), at),
+            SlotUse::MovesGroup => self.lose(NO_SLOT, Held::Group.kind(), at),
+            _ => {}
         }
     }
 
     /// Makes the pointers stale that a call in a loop's body makes stale.
     fn lose_by_call(&mut self, call: &Item) {
         let at = call.at;
-        let name = self.name(at);
+        let name = self.declared.name(at);
         match opcode_named(&name) {
-            Some(opcode) => match opcode.uses().slot {
-                SlotUse::Moves => {
-                    let symbol = self.symbol(&self.name(call.c));
-                    match symbol.meaning {
-                        Meaning::Block => self.lose_into(symbol.register, at),
-                        // A block that is locked within the loop.
-                        Meaning::Nothing => self.lose_all(at),
-                        _ => {}
+            Some(opcode) => {
+                let uses = opcode.uses().slot;
+                let block = self.symbol(&self.declared.name(call.c));
+                match block.meaning {
+                    // A block that is locked within the loop.
+                    Meaning::Nothing if matches!(uses, SlotUse::Moves) => {
+                        self.lose(NO_SLOT, ANY, at)
                     }
+                    Meaning::Block => self.lose_by(uses, block.register, at),
+                    _ => self.lose_by(uses, NO_SLOT, at),
                 }
-                SlotUse::MovesGroup => self.lose_groups(at),
-                _ => {}
-            },
+            }
             None => if let Some(routine) = self.declared.find(&name)
                 && !routine.quiet
             {
-                self.lose_all(at);
+                self.lose(NO_SLOT, ANY, at);
             },
         }
     }
 
     /// Goes over the turns of a loop, whose items follow: pointers are stale that they make stale. Whether they speak of the name.
     pub(crate) fn foresee(&mut self, name_place: u32) -> bool {
-        let name = self.name(name_place);
+        let name = self.declared.name(name_place);
         let mut depth: u32 = 1;
         let mut speaks = false;
         for index in self.next..self.declared.items().len() {
@@ -80,7 +71,7 @@ impl Placer {
             match item.kind {
                 ItemKind::Turns | ItemKind::For => depth = depth.saturating_add(1),
                 ItemKind::TurnEnd => depth = depth.saturating_sub(1),
-                ItemKind::Named => speaks = speaks || self.name(item.at) == name,
+                ItemKind::Named => speaks = speaks || self.declared.name(item.at) == name,
                 ItemKind::Call => self.lose_by_call(&item),
                 _ => {}
             }

@@ -94,7 +94,7 @@ impl Placer {
         } else {
             usize::MAX
         };
-        let name = self.name(at);
+        let name = self.declared.name(at);
         let old = self.symbol(&name);
         if !matches!(old.meaning, Meaning::Nothing) {
             return self.refuse_for(Why::Twice, at, old.at, 0);
@@ -112,7 +112,7 @@ impl Placer {
 
     /// The last item from here on that needs the name. If that is in a loop that begins from here on, the end of the loop's iteration.
     fn last_need(&mut self, at: u32) -> usize {
-        let name = self.name(at);
+        let name = self.declared.name(at);
         let from = self.next;
         let mut need = Need {
             index: from,
@@ -133,7 +133,7 @@ impl Placer {
                 item.kind,
                 ItemKind::Named | ItemKind::Assign | ItemKind::Handle
             );
-            if need.ends(item.kind, named && self.name(item.at) == name) {
+            if need.ends(item.kind, named && self.declared.name(item.at) == name) {
                 break;
             }
         }
@@ -153,8 +153,8 @@ impl Placer {
         words
     }
 
-    /// Words that no name needs any more are free.
-    pub(crate) fn settle(&mut self) {
+    /// No value is left, nor a register that one takes. Words that no name needs any more are free.
+    pub(crate) fn clear(&mut self) {
         let needed = self.needed_words();
         let mut named = self.callers;
         for register in 0..MOST_WORDS {
@@ -164,6 +164,9 @@ impl Placer {
         }
         self.named = named;
         self.words = named;
+        self.pointers = self.named_pointers;
+        self.operands.truncate(self.floor);
+        self.spare_taken = false;
     }
 
     /// The lowest word that a name had and that no name needs any more.
@@ -190,8 +193,9 @@ impl Placer {
         }
     }
 
-    /// Where the names are declared that hold words. A parameter in a word of the caller has no word of its own.
-    fn holders(&self) -> [u32; 7] {
+    /// Refuses the source since no word is left, and tells where the names are declared that hold words. A parameter in a word of the caller has
+    /// no word of its own.
+    pub(crate) fn refuse_words(&mut self, at: u32) {
         let mut holders = [NONE; 7];
         for k in 0..self.symbols.len() {
             let symbol = self.symbols[k];
@@ -205,12 +209,6 @@ impl Placer {
                 holders[usize::from(symbol.register)] = symbol.at;
             }
         }
-        holders
-    }
-
-    /// Refuses the source since no word is left.
-    pub(crate) fn refuse_words(&mut self, at: u32) {
-        let holders = self.holders();
         self.refuse_with(Fault {
             holders,
             ..Fault::new(Why::NoWordLeft, at)
@@ -291,7 +289,7 @@ impl Placer {
 
     /// The value of a name.
     pub(crate) fn named_value(&mut self, item: &Item) {
-        let name = self.name(item.at);
+        let name = self.declared.name(item.at);
         let symbol = self.symbol(&name);
         let sort = match symbol.meaning {
             Meaning::Nothing => return self.global_value(item, &name),
@@ -329,7 +327,7 @@ impl Placer {
 
     /// The word for the handle of a block that is made. It is declared here if it is not known.
     pub(crate) fn handle_value(&mut self, item: &Item) {
-        let name = self.name(item.at);
+        let name = self.declared.name(item.at);
         let symbol = self.symbol(&name);
         let register = match symbol.meaning {
             Meaning::Word => symbol.register,

@@ -181,8 +181,8 @@ pub(crate) struct Running {
     /// Whether it may be refused, and where its refusals go then.
     pub refusable: bool,
     pub fails: u16,
-    /// Whether it has a result, and the word of that.
-    pub gives: bool,
+    /// How many results it has, and the word of the first one.
+    pub gives: u8,
     pub register: u8,
     /// The item after the call.
     pub back: usize,
@@ -331,11 +331,6 @@ impl Placer {
             number,
             ..Fault::new(why, at)
         });
-    }
-
-    /// The name at an offset of the source.
-    pub(crate) fn name(&self, at: u32) -> Name {
-        self.declared.name(at)
     }
 
     /// What a constant of an item says.

@@ -1,7 +1,8 @@
 //! Statements that name, set and output values.
 
+use crate::names::value;
 use crate::placed::{NOWHERE, with_registers};
-use crate::placer::{MOST_WORDS, Meaning, Operand, Placer, Symbol};
+use crate::placer::{MOST_WORDS, Meaning, Operand, Placer, Sort, Symbol};
 use crate::state::{bit, fetched};
 use geos_opcodes::Opcode;
 use tkv_syntax::{Item, Why};
@@ -39,27 +40,20 @@ impl Placer {
         );
     }
 
-    /// The word for a name whose value is in a word of its own: a lower one, if what computes the value can leave it there.
-    fn settled_word(&mut self, from: u8) -> u8 {
-        match self.freed_word() {
-            Some(register) => {
-                if register < from && self.retarget(from, register) {
-                    register
-                } else {
-                    from
-                }
-            }
-            None => from,
-        }
-    }
-
-    /// Names a value: a word is moved to one that only the name has.
+    /// Names a value: a word is moved to one that only the name has, or what computes the value leaves it in a lower word.
     fn declare_value(&mut self, operand: Operand, at: u32) {
         if operand.is_pointer() {
             return self.declare_pointer(operand, at);
         }
-        let register = if operand.is_temporary() && operand.register < MOST_WORDS {
-            self.settled_word(operand.register)
+        let from = operand.register;
+        let register = if operand.is_temporary() && from < MOST_WORDS {
+            match self.freed_word() {
+                Some(register) => {
+                    let leaves = register < from && self.retarget(from, register);
+                    if leaves { register } else { from }
+                }
+                None => from,
+            }
         } else {
             let register = self.take_named(at);
             self.move_to(operand, register, at);
@@ -76,12 +70,19 @@ impl Placer {
             self.declare_unset(item.at);
             return;
         }
-        let (index, count) = (item.a as usize, item.b as usize);
-        if self.operand_count() != count || index >= count {
-            return self.refuse(Why::Values, item.at);
-        }
-        let operand = self.operand(count - 1 - index, item.at);
+        let operand = self.bound_value(item);
         self.declare_value(operand, item.at);
+    }
+
+    /// Value `a` of `b`, if the statement has so many.
+    fn bound_value(&mut self, item: &Item) -> Operand {
+        let (index, count) = (item.a as usize, item.b as usize);
+        let given = self.operand_count();
+        if given != count || index >= count {
+            self.refuse_for(Why::Values, item.at, item.at, given.min(255) as u16);
+            return value(Sort::Constant, item.at, 0, 0);
+        }
+        self.operand(count - 1 - index, item.at)
     }
 
     /// Sets a pointer to what another one is, which leads into the same block and has the same bytes.
@@ -105,14 +106,11 @@ impl Placer {
         self.lost[usize::from(to)].lost = false;
     }
 
-    /// Sets the name to the value.
+    /// Sets the name to value `a` of `b`.
     pub(crate) fn assign(&mut self, item: &Item) {
         let at = item.at;
-        let operand = self.operand(0, at);
-        if self.operand_count() != 1 {
-            return self.refuse(Why::Values, at);
-        }
-        let symbol = self.symbol(&self.name(at));
+        let operand = self.bound_value(item);
+        let symbol = self.symbol(&self.declared.name(at));
         match symbol.meaning {
             Meaning::Word => {
                 self.move_to(operand, symbol.register, at);
@@ -143,7 +141,7 @@ impl Placer {
 
     /// Marks the block.
     pub(crate) fn make_dirty(&mut self, item: &Item) {
-        let symbol = self.symbol(&self.name(item.at));
+        let symbol = self.symbol(&self.declared.name(item.at));
         match symbol.meaning {
             Meaning::Block => self.mark(symbol.register, item.at),
             Meaning::Nothing => self.refuse(Why::Unknown, item.at),

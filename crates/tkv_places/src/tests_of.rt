@@ -126,14 +126,6 @@ impl Placer {
         self.clear();
     }
 
-    /// No value is left, nor a word that one takes.
-    pub(crate) fn clear(&mut self) {
-        self.operands.truncate(self.floor);
-        self.settle();
-        self.pointers = self.named_pointers;
-        self.spare_taken = false;
-    }
-
     /// A condition begins, with the blocks that its answers lead to: the end of all, of what follows if it holds, and of itself.
     pub(crate) fn conditional(&mut self, item: &Item) {
         let mut frame = self.frame(Construct::If, item.at);
