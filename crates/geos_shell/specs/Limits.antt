@@ -4,7 +4,7 @@ use Rattle.geos_shell.specs.declared.numbers.Number.{Number}
 use Rattle.geos_shell.specs.declared.request.FileRequest.{FileRequest}
 use Rattle.geos_shell.specs.declared.request.FileRequest.TheVariants.{New, Copy, Put, Get, Dump, Diff, Map, Page}
 use Rattle.geos_shell.specs.declared.request.Request.{Request}
-use Rattle.geos_shell.specs.declared.request.Request.TheVariants.{Routines, Test, Text, File, Serve}
+use Rattle.geos_shell.specs.declared.request.Request.TheVariants.{Routines, Test, Text, File, Shell, Serve}
 use Rattle.geos_shell.specs.declared.request.RoutineRequest.{RoutineRequest}
 use Rattle.geos_shell.specs.declared.request.RoutineRequest.TheVariants.{Session, Call, Trace, Run}
 
@@ -48,4 +48,5 @@ KeepsLimits (Routines request) = RunsWithinLimits request
 KeepsLimits (Test request) = IsRegion request.region
 KeepsLimits (Text request) = Unit {0}
 KeepsLimits (File request) = WorksWithinLimits request
+KeepsLimits (Shell request) = IsRegion request.region
 KeepsLimits Serve = Unit {0}

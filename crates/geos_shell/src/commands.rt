@@ -490,6 +490,35 @@ each block has a bar whose length is to the longest bar as the block is to the l
 use, `.` is free. `used` counts bytes, also those of the heap's header and table. A group has `group` in
 place of its user ID. With --html, the file OUT is a page to look at in a browser, with the bytes of chunks.
 ====
+shell Answers lines at once: commands of a script, and words that show what they did
+?IN A file of assembly text, at most 1,048,576 bytes, or of an image's bytes; without it, there are no routines
+:file=FILE The VM file that it works on, as `new` makes it; without it, one in memory
+:journal=OUT A file that gets the lines since the last commit; if it has lines, these are carried out first
+#region=1048576 How many bytes of memory the blocks have, 65536 to 16777216
+
+Each line of the standard input is answered before the next one is read:
+  call add 2 3         a command of a script, as `geos help run` lists them, also with -> and $
+  undo                 takes back the last command; commands before a commit stay
+  dump [H [C]]         prints the blocks as `geos dump` would after `update`
+  map                  draws them as `geos map` would
+  explain [NAME]       prints what is known at each instruction, or only at those of the routine
+  trace NAME n.. @h..  prints the steps of a call, which changes nothing
+  help [TOPIC]         prints this list, or what `geos help` says of DEREF, V4, refused 4 or why 2
+  quit                 ends the session, as the end of the input does
+On a terminal, `geos> ` precedes each line. A line that says none of these is reported on standard error as
+`line N: ..`, and nothing is done. The status is 1 if there was such a line.
+The commands work on a copy of FILE in memory. When one commits, the same commands run on FILE; so FILE
+changes only by commits, each atomic. What is not committed at the end is lost. Other commands that use FILE
+wait until the session ends. All lines together have at most 1,048,576 bytes.
+
+`geos-shell` takes the same words. It adds a history and completion, if `rlwrap` is installed. Ctrl-C then ends a
+call and not the session: geos starts again, and carries out the lines of OUT, which are those since the last
+commit. So what the call did is taken back, except for what it has committed. If it was ended while it
+committed, lines before it that were not committed may be lost.
+
+Example:
+  geos shell examples/counter.asm --file counter.vm
+====
 lsp Shows an editor what `explain` finds, by the Language Server Protocol on the standard streams
 
 An editor starts this server, and sends it the texts and sources that are open. The server reports faults,

@@ -9,7 +9,8 @@ use crate::streams::{STANDARD, name_of};
 
 /// The arguments that are paths: after `<` of what is read, where `-` is the standard input, after `>` of what is written, where `-` is the
 /// standard output, and after `=` of VM files.
-const PATHS: &str = "=FILE =NEW =A =B =file <IN <TEXT <IMAGE <SCRIPT <script >OUT >html >junit";
+const PATHS: &str =
+    "=FILE =NEW =A =B =file <IN <TEXT <IMAGE <SCRIPT <script >OUT >html >junit =journal";
 
 /// Whether standard error goes into the file with the path.
 fn are_in(rt: &HostRuntime, path: &str) -> bool {
@@ -48,7 +49,7 @@ fn is_in_word(rt: &HostRuntime, word: &str) -> bool {
 /// Whether it goes into a stream that the request reads or writes though no word is `-`.
 fn are_in_stream(rt: &HostRuntime, request: &Request<'_>) -> bool {
     match request {
-        Request::Routines(RoutineRequest::Session) => are_in_read(rt, STANDARD),
+        Request::Routines(RoutineRequest::Session) | Request::Shell(_) => are_in_read(rt, STANDARD),
         Request::Routines(RoutineRequest::Call { call, .. }) => {
             call.is_none() && are_in_read(rt, STANDARD)
         }

@@ -21,6 +21,7 @@ geos call IN [NAME [N..]] [--file FILE [--update | --save]] [--grant EFFECTS] [-
        geos dump FILE [H [C]] [--saved] [--chunks | --arrays] [--json]
        geos diff A B [--saved]
        geos map FILE [--width N | --html OUT]
+       geos shell [IN] [--file FILE] [--journal OUT] [--region N]
        geos lsp
        geos < SESSION
        geos help [COMMAND | TOPIC]";

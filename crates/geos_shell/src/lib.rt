@@ -26,6 +26,7 @@ mod one_file;
 mod output;
 mod parts;
 mod printable;
+mod prompting;
 mod reason;
 mod replace;
 mod reported;
@@ -51,6 +52,7 @@ pub use new_file::NewFile;
 pub use one_file::are_one_file_read;
 pub use output::keep_from_output;
 pub use printable::Named;
+pub use prompting::ShellRequest;
 pub use reason::Reason;
 pub use reported::{Diagnosed, Reported, done_or_reported, report};
 pub use request::{

@@ -16,6 +16,7 @@ use crate::help::misuse;
 use crate::language::Language;
 use crate::making::New;
 use crate::numbers::{AREA, REGION, StepRange, WIDTH};
+use crate::prompting::{ShellRequest, shell_of};
 use crate::rules::misuse_of;
 use crate::run_limits::RunLimits;
 use crate::step_choice::StepChoice;
@@ -233,6 +234,8 @@ pub enum Request<'a> {
     Text(TextRequest<'a>),
     /// To work on a VM file.
     File(FileRequest<'a>),
+    /// To answer lines one after another.
+    Shell(ShellRequest<'a>),
     /// To serve an editor by the Language Server Protocol, on the standard streams.
     Serve,
 }
@@ -515,6 +518,7 @@ fn plain_request<'a>(name: &str, given: &Given<'_, 'a>) -> Request<'a>
         "dump" => dump_of(given),
         "diff" => Request::File(FileRequest::Diff(diff_of(given))),
         "map" => map_of(given),
+        "shell" => Request::Shell(shell_of(given)),
         "lsp" => Request::Serve,
         _ => Request::Routines(RoutineRequest::Session),
     }

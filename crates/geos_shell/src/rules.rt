@@ -74,6 +74,8 @@ put item new-group: '--item' requires H and C
 put item new-chunk: '--item' requires H and C
 put item new-item: '--item' requires H and C
 dump arrays json: only one of '--arrays' and '--json' can be given
+shell IN=-: lines are read from the standard input, so IN is a file
+shell journal=-: '--journal' requires a file OUT
 asm IN==OUT !IN=-: IN and OUT are one file, and the text would be lost
 explain !script vars: '--vars' is for a script, so '--script' has to be given
 explain html script: only one of '--html' and '--script' can be given
