@@ -4,6 +4,7 @@ ghost use Rattle.geos_shell.specs.Limits.{KeepsLimits, RunsWithinLimits, WorksWi
 
 use crate::json::{assemble_and_tell, check_and_tell, done, print_warning, read_and_tell};
 use crate::pages::explain_on_page;
+use crate::prompting::answer_lines;
 use crate::testing::run_tests;
 use geos_cli::Mode;
 use geos_dump::{Detail, Side, View};
@@ -15,8 +16,9 @@ use geos_runs::{
 };
 use geos_scripts::NameUse;
 use geos_shell::{
-    Asked, CallWords, DumpRequest, EndCommit, FileRequest, Language, OutputForm, Reported, Reports,
-    Request, Room, RoutineRequest, RunLimits, TextPath, TextRequest, report, tell,
+    Asked, CallWords, Diagnosed, DumpRequest, EndCommit, FileRequest, Language, OutputForm,
+    Reported, Reports, Request, Room, RoutineRequest, RunLimits, TextPath, TextRequest, report,
+    tell,
 };
 use geos_texts::{
     KnownLines, Limited, Limits, Runnable, TextFault, assemble, assemble_all, budget, check,
@@ -24,6 +26,7 @@ use geos_texts::{
 };
 use language_server::{ServeFault, serve};
 use line_marks::Origin;
+use std::fmt::Display;
 use std::io::{self, BufReader};
 
 /// What a script does after a refused command.
@@ -70,10 +73,10 @@ fn view_of(dump: &DumpRequest<'_>, json: bool) -> View {
 }
 
 /// The end of a run of routines. If the verifier refuses their image, its refusals are among the diagnostics.
-pub(crate) fn ran<T: Drop>(
+pub(crate) fn ran<T: Drop, F: Diagnosed + Display + Drop>(
     rt: &HostRuntime,
     reports: Reports,
-    ran: Result<T, RunFault<'_>>,
+    ran: Result<T, F>,
     routines: &Runnable<'_>,
 ) -> Result<T, Reported> {
     let ended = done(rt, reports, ran);
@@ -469,6 +472,7 @@ pub(crate) fn carry_out(rt: &HostRuntime, asked: Asked<'_>) -> Result<(), Report
             done(rt, reports, work_on_text(rt, reports, request, language))
         }
         Request::File(request) => work_on_file(rt, reports, request),
+        Request::Shell(request) => answer_lines(rt, reports, &request, language),
         Request::Serve => serve_editor(rt),
     }
 }
