@@ -7,6 +7,7 @@ made=$(mktemp -d) || exit
 trap 'rm -rf "$made"' EXIT
 "$here/pages.sh" "$program" "$made" &&
     install -D -m 755 "$program" "$root/bin/geos" &&
+    install -D -m 755 "$here/geos-shell" "$root/bin/geos-shell" &&
     install -D -m 644 -t "$root/share/man/man1" "$made"/*.1 &&
     install -D -m 644 -t "$root/share/man/man5" "$made"/*.5 &&
     install -D -m 644 "$made/bash" "$root/share/bash-completion/completions/geos" &&

@@ -37,7 +37,7 @@ OWN_LINE = re.compile(rb"(interpreter|checked|races): |run=|rt: ")
 # Names that `rt try` keeps for itself in the folder in which the program runs.
 TAKEN = ("program", "stdin", "stdout", "stderr", "given")
 # The options of `geos` with a word after them.
-WITH_WORD = ("--break", "--color", "--file", "--from", "--grant", "--html", "--junit", "--language", "--most-blocks", "--most-bytes", "--most-steps", "--only", "--region", "--script", "--steps", "--watch", "--when")
+WITH_WORD = ("--break", "--color", "--file", "--from", "--grant", "--html", "--journal", "--junit", "--language", "--most-blocks", "--most-bytes", "--most-steps", "--only", "--region", "--script", "--steps", "--watch", "--when")
 # The options of `call`, `explain`, `test` and `trace` that name a VM file, or a file that is written.
 NEEDS_PROOF = ("--file", "--html", "--junit")
 # The options that may stand before the command.
@@ -106,7 +106,7 @@ class Request:
             return len(self.plain) > 1 and self.words[self.plain[1]] != "-"
         if self.command == "check":
             return any(is_vm_file(self.words[place]) for place in self.plain[:1])
-        return self.command in ("new", "copy", "run", "put", "get", "dump", "diff", "map", "lsp")
+        return self.command in ("new", "copy", "run", "put", "get", "dump", "diff", "map", "shell", "lsp")
 
     def inputs(self) -> list[int]:
         """Where the words stand that name files to read."""
