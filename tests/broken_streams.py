@@ -67,6 +67,8 @@ COMMANDS = [
     (["dump", "text.asm"], None, None),
     (["diff", "file.vm", "file.vm"], None, None),
     (["map", "file.vm"], None, None),
+    (["shell", "image", "--file", "file.vm"], "script", "file.vm"),
+    (["shell", "image"], "script", None),
     (["help"], None, None),
     (["run", "--help"], None, None),
     (["--version"], None, None),

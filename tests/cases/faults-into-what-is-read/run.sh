@@ -35,6 +35,8 @@ silent /dev/null book.vm run kept.image book.vm script
 silent script script run kept.image book.vm -
 silent script script call text
 silent script script
+silent script script shell text
+silent script book.vm shell text --file book.vm
 silent /dev/null book.vm new book.vm
 silent /dev/null book.vm copy book.vm text
 silent /dev/null book.vm copy missing book.vm

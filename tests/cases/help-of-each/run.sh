@@ -4,7 +4,7 @@ folder=$(mktemp -d)
 trap 'rm -rf "$folder"' EXIT
 "$1" help >"$folder/help"
 "$1" --help | cmp - "$folder/help" && echo "the same of the program"
-for command in call test asm list check explain new copy run dump diff map; do
+for command in call test asm list check explain new copy run dump diff map shell; do
     "$1" help "$command" >"$folder/help"
     "$1" "$command" --help | cmp - "$folder/help" && echo "the same of $command"
 done

@@ -44,6 +44,8 @@ refused /dev/null kept.image run kept.image book.vm script
 refused /dev/null script run kept.image book.vm script
 refused script script run kept.image book.vm -
 refused script script
+refused script script shell text
+refused script book.vm shell text --file book.vm
 
 # Any other file is printed into, and so is a device.
 "$program" asm text image

@@ -19,7 +19,7 @@ longest() {
 shown 60 help copy
 shown 40 help VNEW
 "$program" help map >plain.map
-for command in "" call trace test asm budget fmt list check explain new copy run put get dump diff map lsp; do
+for command in "" call trace test asm budget fmt list check explain new copy run put get dump diff map shell lsp; do
     "$program" help $command >plain
     COLUMNS=50 "$program" help $command | cmp - plain
     for columns in 40 79 120; do

@@ -28,6 +28,7 @@ proves copy counter.vm copy.vm
 proves dump counter.vm
 proves diff counter.vm copy.vm
 proves map counter.vm
+proves shell counter.asm
 GEOS_PROVED=1
 export GEOS_PROVED
 proves call add.asm add 2 3
