@@ -1,55 +1,27 @@
-// A play of a refused routine: its steps in the model, up to the fault.
+// A play of a routine in the model: its steps, with memory as it is before and after each.
 
-const IS_PICTURE = "This is a picture that the script of this page draws, and not the machine: geos never runs a text that the verifier refuses.";
 const HUES = 6;
-
-/** @returns {Program | null} the program that a page shows, if the model can play it */
-function program_of({ page, routines }) {
-  if (page.shows === "faulty") return null;
-  const lines = routines.flatMap((routine) => routine.lines).filter((line) => line.op);
-  const is_known = lines.every(({ op, words }) => INSTRUCTIONS[op]?.[0].split(" ").filter((letter) => letter).length === words.length - 1);
-  return is_known && lines.length ? new Program(routines) : null;
-}
 
 /** Removes the mark of the next line. */
 const unmark_line = () => document.querySelectorAll(".lines .next").forEach((line) => line.classList.remove("next"));
 const changed_if = (is_changed, text) => node("span", { class: is_changed ? "changed" : false }, text);
 
-// The play of one routine, in a panel above its lines.
+// The steps of one routine, which a reader goes through by buttons, a slider or keys.
 class Play {
-  /**
-   * @param {Program} program
-   * @param {number} number the number of the routine
-   */
-  constructor(program, number) {
-    [this.program, this.number, this.place] = [program, number, 0];
-    this.given = given_for(program, number);
-    this.make_panel();
-    this.begin(this.given);
-  }
-
-  make_panel() {
-    const name = this.program.routines[this.number].name;
-    this.input = node("input", { type: "text", id: `call-${name}`, "aria-label": "Words and lent blocks", value: typed_of(this.given), autocomplete: "off", spellcheck: "false", size: 24 });
-    this.wrong = node("span", { class: "wrong", role: "alert" });
-    const form = node("form", { class: "call" }, node("label", { for: this.input.id }, `Words w0 to w7, then @ and the handle of each lent block: `),
-      this.input, " ", node("button", {}, "Play"), " ", this.wrong);
-    form.addEventListener("submit", (event) => {
-      event.preventDefault();
-      this.read();
-    });
+  /** @param {Program} program */
+  constructor(program) {
+    [this.program, this.place] = [program, 0];
     this.said = node("p", { class: "place", role: "status" });
     this.body = node("div", { class: "picture" });
-    this.panel = node("section", { class: "play", "aria-label": `A play of ${name}` }, node("p", { class: "note" }, IS_PICTURE),
-      form, node("p", { class: "quiet" }, this.made_words()), this.buttons(), this.said, this.body);
-    this.panel.addEventListener("keydown", (event) => this.press(event));
   }
 
-  /** What the model makes before the routine begins. */
-  made_words() {
-    const { slots } = this.program.routines[this.number].entry;
-    if (!slots.size) return "Memory is empty at first, and the VM file is new.";
-    return "The block of each slot has three chunks: 16 with letters, 18 with an array of two elements of 4 bytes, and 20 with `ABCDEF`.";
+  /**
+   * @param {string} label what a screen reader calls the panel
+   * @param {...Node} before what comes before the steps
+   */
+  make_panel(label, ...before) {
+    this.panel = node("section", { class: "play", "aria-label": label }, ...before, this.buttons(), this.slider_part(), this.said, this.body);
+    this.panel.addEventListener("keydown", (event) => this.press(event));
   }
 
   buttons() {
@@ -60,38 +32,39 @@ class Play {
     };
     this.on = button("Next \u203a", "Next step", () => this.go(this.place + 1));
     return node("p", { class: "steps-of-play" },
-      button("\u00ab Begin", "To the begin", () => this.go(0)), " ", button("\u2039 Back", "Step back", () => this.go(this.place - 1)), " ",
+      button("\u00ab Start", "To the start", () => this.go(0)), " ", button("\u2039 Back", "Step back", () => this.go(this.place - 1)), " ",
       this.on, " ", button("End \u00bb", "To the end", () => this.go(this.last)), " ", node("span", { class: "quiet" }, "Keys: arrows, Home, End"));
+  }
+
+  slider_part() {
+    this.slider = node("input", { type: "range", class: "slider", min: 0, max: 0, step: 1, "aria-label": "Step" });
+    this.slider.addEventListener("input", () => this.go(+this.slider.value));
+    return this.slider;
+  }
+
+  /** Whether keys in an element mean something else. */
+  types_in(element) {
+    return element instanceof HTMLInputElement && element !== this.slider;
   }
 
   press(event) {
     const places = { ArrowRight: this.place + 1, ArrowLeft: this.place - 1, Home: 0, End: this.last };
-    if (event.target === this.input || event.ctrlKey || event.altKey || event.metaKey || !(event.key in places)) return;
+    if (this.types_in(event.target) || event.ctrlKey || event.altKey || event.metaKey || !(event.key in places)) return;
     event.preventDefault();
     this.go(places[event.key]);
   }
 
-  read() {
-    try {
-      this.wrong.textContent = "";
-      this.begin(given_of(this.input.value, this.program.routines[this.number].entry));
-    } catch (why) {
-      if (!(why instanceof Wrong)) throw why;
-      this.wrong.textContent = why.said;
-    }
-  }
-
-  /** @param {Given} given */
-  begin(given) {
-    this.given = given;
+  /** Plays it to its end, and goes to a place. */
+  begin(place) {
     const machine = this.machine_at(MOST_PLAYED);
     [this.last, this.end] = [machine.steps, machine];
-    this.go(this.last);
+    this.slider.max = this.last;
+    this.go(place ?? this.last);
   }
 
   /** @returns {Machine} the machine after some steps */
   machine_at(place) {
-    const machine = machine_of(this.program, this.number, this.given);
+    const machine = this.start();
     while (machine.steps < place && machine.step());
     return machine;
   }
@@ -101,8 +74,10 @@ class Play {
     const before = this.machine_at(this.place - 1);
     const now = this.place === this.last ? this.end : this.machine_at(this.place);
     this.show_place(before, now);
+    this.slider.value = this.place;
+    this.slider.setAttribute("aria-valuetext", `step ${this.place} of ${this.last}`);
     const is_fault = this.place === this.last && now.fault;
-    this.body.replaceChildren(...[is_fault && this.fault_part(now), this.registers(before, now), ...this.blocks(before, now)].filter((part) => part));
+    this.body.replaceChildren(...[is_fault && this.fault_part(now), this.registers(before, now), this.output(before, now), ...this.blocks(before, now)].filter((part) => part));
     this.mark_line(now);
   }
 
@@ -120,9 +95,13 @@ class Play {
   }
 
   end_words(machine) {
-    if (machine.has_returned) return "The routine returns, without a fault. The verifier looks at all paths and all words: try other words.";
+    if (machine.has_returned) return this.return_words();
     const { next, fault: { rule, said } } = machine;
     return `A fault by ${rule}${next && rule !== "V1" ? ` at ${line_words(next)}` : ""}: ${said}.`;
+  }
+
+  return_words() {
+    return "The routine returns.";
   }
 
   fault_part(machine) {
@@ -172,7 +151,16 @@ class Play {
 
   pointer(machine, n, target) {
     const said = `p${n} ${meant_words(target)}, at ${machine.spans[n].at}`;
-    return node("span", { class: target.stale ? "pointer stale" : "pointer" }, target.stale ? `${said}, stale` : said);
+    if (!target.stale) return node("span", { class: "pointer" }, said);
+    return node("span", { class: "pointer stale" }, node("s", {}, said), ` stale since ${line_words(this.program.code[target.stale.pc])}`);
+  }
+
+  /** The words that are out, the new one marked. */
+  output(before, now) {
+    const { length } = now.output;
+    if (!length) return null;
+    const is_new = (n) => this.place > 0 && n >= before.output.length;
+    return node("p", { class: "out" }, "output", ...now.output.flatMap((word, n) => [" ", changed_if(is_new(n), String(word))]));
   }
 
   /** The blocks of slots and of pointers. */
@@ -188,7 +176,7 @@ class Play {
     const chunk_at = new Map(heap.chunks().flatMap(({ chunk, at, len }) => Array.from({ length: len }, (_, n) => [at + n, chunk])));
     const marks = this.marks(now, place);
     const kind_of = (i) => [
-      chunk_at.has(i) && `hue${(chunk_at.get(i) - TABLE) / 2 % HUES}`, this.place && old_bytes && old_bytes[i] !== heap.bytes[i] && "changed", marks.get(i),
+      chunk_at.has(i) && `hue${(chunk_at.get(i) - TABLE) / 2 % HUES}`, this.place && old_bytes && (old_bytes[i] ?? 0) !== heap.bytes[i] && "changed", marks.get(i),
     ].filter((kind) => kind).join(" ") || false;
     const bytes = [...heap.bytes.subarray(0, MOST_DRAWN)];
     return node("div", { class: "block" }, node("h3", {}, `${block_words(name)}: ${size} bytes at ${place} of the region`),
@@ -214,34 +202,3 @@ class Play {
   }
 }
 
-/** @returns {Play | null} the play of a routine, if the model has room for what its entry row requires */
-function play_of(program, number) {
-  try {
-    return new Play(program, number);
-  } catch (why) {
-    if (why instanceof Refusal) return null;
-    throw why;
-  }
-}
-
-/** The button of a refused routine, and the panel that it opens. */
-function play_part(program, routine) {
-  const number = program.number_of(routine.name);
-  const is_refused = routine.lines.some((line) => line.findings.some(({ kind }) => kind === "error"));
-  if (number < 0 || !is_refused) return null;
-  const button = node("button", { type: "button", class: "play-button", "aria-expanded": "false" }, "Play this routine in a model");
-  const part = node("div", { class: "play-part" }, button);
-  button.addEventListener("click", () => {
-    const is_open = button.getAttribute("aria-expanded") === "true";
-    button.setAttribute("aria-expanded", String(!is_open));
-    if (is_open) {
-      part.lastChild.remove();
-      unmark_line();
-      return;
-    }
-    const play = play_of(program, number);
-    part.append(play ? play.panel : node("p", { class: "quiet" }, "The model has no room for the blocks of the entry row."));
-    play?.on.focus();
-  });
-  return part;
-}

@@ -5,6 +5,7 @@
 FOLDER is crates/ if it is not given. A page is a file .html of page/, with styles and scripts of page/ in the order below.
 """
 
+import re
 import sys
 from dataclasses import dataclass
 from pathlib import Path
@@ -13,6 +14,13 @@ TOP = Path(__file__).resolve().parent.parent
 HEAD = "//! {}. Made by tools/page.py from page/.\n"
 # The script at which the part after a run is cut in two.
 PANELS = "panels.js"
+# A line in the place of a style sheet.
+STYLE = re.compile(r"/\* (\w+\.css) \*/\n")
+
+
+def text_of(scripts: tuple[str, ...]) -> str:
+    """Scripts as one."""
+    return "\n".join((TOP / "page" / name).read_text() for name in scripts)
 
 
 @dataclass
@@ -26,13 +34,11 @@ class Page:
     def whole(self) -> str:
         """The page, with lines in the place of its data."""
         folder = TOP / "page"
-        script = "\n".join((folder / name).read_text() for name in self.scripts)
+        script = text_of(self.scripts)
         if "</script" in script:
             raise SystemExit("page: a script has `</script`, which would end it")
         whole = (folder / f"{self.name}.html").read_text()
-        for style in ("base.css", f"{self.name}.css"):
-            before, after = whole.split(f"/* {style} */\n")
-            whole = before + (folder / style).read_text() + after
+        whole = STYLE.sub(lambda line: (folder / line[1]).read_text(), whole)
         return whole.replace("/* script */\n", script)
 
     def ends(self, *places: str) -> tuple[str, str]:
@@ -42,7 +48,9 @@ class Page:
 
 RUN = Page("run", ("shared.js", "listing.js", "bytes.js", "run.js", "region.js", "panels.js", "player.js"))
 MODEL = ("heap.js", "arrays.js", "places.js", "kernel.js", "model.js", "machine.js")
-EXPLAINED = Page("explain", ("shared.js", "listing.js", "bytes.js", "findings.js", "graph.js", *MODEL, "scene.js", "telling.js", "play.js", "explain.js"))
+# What pages of texts have, and the laboratory too.
+PLAYING = ("shared.js", "listing.js", "bytes.js", "findings.js", *MODEL, "scene.js", "telling.js", "play.js")
+EXPLAINED = Page("explain", (*PLAYING, "graph.js", "refused.js", "explain.js"))
 MAP = Page("map", ("shared.js", "bytes.js", "map.js"))
 PLACES = ("<!-- text -->\n", "<!-- data -->\n")
 

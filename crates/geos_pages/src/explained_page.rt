@@ -60,6 +60,40 @@ footer { margin-top: 20px; font-size: 12.5px; }
   body { background: #fff; max-width: none; }
   * { print-color-adjust: exact; }
 }
+.play-part { margin: 0 0 10px; }
+.play-part button { font: inherit; color: var(--blue); background: var(--card); border: 1px solid var(--line); border-radius: 8px; padding: 3px 12px; cursor: pointer; }
+.play-part button:hover { background: var(--wash); }
+.play { margin-top: 8px; padding: 10px 14px; background: var(--card); border: 1px solid var(--line); border-radius: 10px; overflow: hidden; overflow-wrap: anywhere; }
+.play .note { color: var(--warm); font-weight: 600; }
+.play form, .steps-of-play { margin: 8px 0; }
+.play input { font: 13px var(--mono); color: var(--ink); background: var(--paper); border: 1px solid var(--line); border-radius: 6px; padding: 3px 8px; max-width: 100%; }
+.play .slider { width: 100%; padding: 0; accent-color: var(--blue); }
+.play .wrong, .play .bad { color: var(--bad); font-weight: 600; }
+.play .place { min-height: 3em; }
+.play .out { font: 12.5px/1.6 var(--mono); }
+.play .out .changed { background: var(--warm-wash); color: var(--warm); font-weight: 700; }
+.play .fault { margin: 8px 0; padding: 8px 12px; border: 1px solid var(--bad); border-radius: 8px; background: var(--bad-wash); }
+.compared { margin: 6px 0; border-collapse: collapse; font: 12.5px/1.6 var(--mono); }
+.compared th, .compared td { text-align: left; font-weight: 400; padding: 1px 16px 1px 0; vertical-align: top; }
+.compared th { color: var(--soft); }
+.registers { display: flex; flex-wrap: wrap; gap: 2px 14px; margin: 8px 0; font: 12.5px/1.6 var(--mono); }
+.registers .changed { background: var(--warm-wash); color: var(--warm); font-weight: 700; }
+.pointer { color: var(--good); }
+.pointer.stale { color: var(--bad); }
+.block { margin-top: 10px; overflow-x: auto; }
+.block h3 { margin: 0 0 2px; font: 600 12.5px/1.6 var(--mono); }
+.chunks { font: 12px/1.7 var(--mono); }
+.chunks span { padding: 0 6px; border-radius: 6px; }
+.hue0 { background: hsl(210 65% var(--chunk)); }
+.hue1 { background: hsl(277 65% var(--chunk)); }
+.hue2 { background: hsl(150 55% var(--chunk)); }
+.hue3 { background: hsl(40 70% var(--chunk)); }
+.hue4 { background: hsl(330 60% var(--chunk)); }
+.hue5 { background: hsl(90 50% var(--chunk)); }
+.bytes .led { border-bottom-color: var(--bad); color: var(--bad); font-weight: 700; }
+.bytes .meant { border-bottom: 2px dotted var(--good); }
+.bytes .good { border-bottom-color: var(--good); }
+@media print { .play-button, .play form, .steps-of-play, .slider { display: none; } }
 header { padding-bottom: 2px; }
 #verdict { font-weight: 600; padding: 2px 12px; border-radius: 12px; background: var(--wash); }
 #verdict:empty { display: none; }
@@ -143,38 +177,7 @@ a:hover .row-back { fill: var(--wash); }
   aside { position: static; max-height: none; }
   .finding, aside { break-inside: avoid; }
 }
-.play-part { margin: 0 0 10px; }
-.play-part button { font: inherit; color: var(--blue); background: var(--card); border: 1px solid var(--line); border-radius: 8px; padding: 3px 12px; cursor: pointer; }
-.play-part button:hover { background: var(--wash); }
-.play { margin-top: 8px; padding: 10px 14px; background: var(--card); border: 1px solid var(--line); border-radius: 10px; overflow: hidden; overflow-wrap: anywhere; }
-.play .note { color: var(--warm); font-weight: 600; }
-.play form, .steps-of-play { margin: 8px 0; }
-.play input { font: 13px var(--mono); color: var(--ink); background: var(--paper); border: 1px solid var(--line); border-radius: 6px; padding: 3px 8px; max-width: 100%; }
-.play .wrong, .play .bad { color: var(--bad); font-weight: 600; }
-.play .place { min-height: 3em; }
-.fault { margin: 8px 0; padding: 8px 12px; border: 1px solid var(--bad); border-radius: 8px; background: var(--bad-wash); }
-.compared { margin: 6px 0; border-collapse: collapse; font: 12.5px/1.6 var(--mono); }
-.compared th, .compared td { text-align: left; font-weight: 400; padding: 1px 16px 1px 0; vertical-align: top; }
-.compared th { color: var(--soft); }
-.registers { display: flex; flex-wrap: wrap; gap: 2px 14px; margin: 8px 0; font: 12.5px/1.6 var(--mono); }
-.registers .changed { background: var(--warm-wash); color: var(--warm); font-weight: 700; }
-.pointer { color: var(--good); }
-.pointer.stale { color: var(--bad); }
-.block { margin-top: 10px; overflow-x: auto; }
-.block h3 { margin: 0 0 2px; font: 600 12.5px/1.6 var(--mono); }
-.chunks { font: 12px/1.7 var(--mono); }
-.chunks span { padding: 0 6px; border-radius: 6px; }
-.hue0 { background: hsl(210 65% var(--chunk)); }
-.hue1 { background: hsl(277 65% var(--chunk)); }
-.hue2 { background: hsl(150 55% var(--chunk)); }
-.hue3 { background: hsl(40 70% var(--chunk)); }
-.hue4 { background: hsl(330 60% var(--chunk)); }
-.hue5 { background: hsl(90 50% var(--chunk)); }
-.bytes .led { border-bottom-color: var(--bad); color: var(--bad); font-weight: 700; }
-.bytes .meant { border-bottom: 2px dotted var(--good); }
-.bytes .good { border-bottom-color: var(--good); }
 .lines > li.next { outline: 2px dashed var(--blue); outline-offset: -2px; }
-@media print { .play-button, .steps-of-play { display: none; } }
 </style>
 </head>
 <body>
