@@ -22,7 +22,7 @@ function finding_item(finding) {
   return node("li", { class: "finding " + finding.kind, id: finding.id, tabindex: "-1" },
     node("span", { class: "rule" }, name), " ", node("span", { class: "said" }, ...linked(said)),
     is_parted ? node("span", { class: "cure" }, ...linked(cure)) : null,
-    RULES[rule] ? node("small", { class: "means" }, `${rule} requires: ${RULES[rule]}.`) : null);
+    RULES[rule] ? node("small", { class: "means" }, [`${rule} requires: ${RULES[rule]}.`, MEANINGS[rule]].join(" ").trim()) : null);
 }
 
 // The line of a routine, with its name in bold.
@@ -82,7 +82,8 @@ function show_verdict() {
   const said = is_faulty ? `not assembled: ${counted(errors, "fault")}` : errors ? `refused: ${counted(errors, "finding")}` : "accepted";
   $("verdict").textContent = said + (warnings ? `, ${counted(warnings, "warning")}` : "");
   $("verdict").className = errors ? "bad" : warnings ? "warm" : "good";
-  $("about").textContent = is_faulty ? "" : "Beside each instruction is what the verifier knows before it runs, and how many steps are left at most.";
+  const legend = legend_of(explained.lines).join("; ");
+  $("about").textContent = is_faulty ? "" : `Beside each instruction is what the verifier knows before it runs, and how many steps are left at most.${legend && ` ${legend}.`}`;
 }
 
 // The most findings in the list at the top.

@@ -26,6 +26,24 @@ const RULES = {
   V14: "the steps are within the budget",
 };
 
+// What words of the rules mean.
+const MEANINGS = { V4: "A pointer is stale if its bytes may have moved, or may be gone." };
+
+// What items mean of which the page knows some: for each kind the first one, in words.
+const KINDS_OF_BLOCKS = { mem: "a block of memory", vm: "a block of the VM file", db: "a group of the VM file" };
+const LEGEND = [
+  [/\bw\d<=\d+/, (item, [word, most]) => `w${word} is at most ${most}`],
+  [/\bs\d=(mem|vm|db)[@!]*/, (item, [slot]) => `slot s${slot} has ${KINDS_OF_BLOCKS[/mem|vm|db/.exec(item)]}`],
+  [/\bp\d=s\d:\d+/, (item, [pointer, slot, bytes]) => `pointer p${pointer} leads to ${bytes} bytes or more of the block in s${slot}`],
+];
+
+function legend_of(lines) {
+  return LEGEND.flatMap(([form, said]) => {
+    const item = lines.map(({ known }) => form.exec(known)).find((found) => found)?.[0];
+    return item ? [`${item}: ${said(item, item.match(/\d+/g))}`] : [];
+  });
+}
+
 // A line of the page: its number or pc, its code, and what is known there.
 class Line {
   constructor(number, code, known, pc) {

@@ -126,6 +126,24 @@ const RULES = {
   V14: \"the steps are within the budget\",
 };
 
+// What words of the rules mean.
+const MEANINGS = { V4: \"A pointer is stale if its bytes may have moved, or may be gone.\" };
+
+// What items mean of which the page knows some: for each kind the first one, in words.
+const KINDS_OF_BLOCKS = { mem: \"a block of memory\", vm: \"a block of the VM file\", db: \"a group of the VM file\" };
+const LEGEND = [
+  [/\\bw\\d<=\\d+/, (item, [word, most]) => `w${word} is at most ${most}`],
+  [/\\bs\\d=(mem|vm|db)[@!]*/, (item, [slot]) => `slot s${slot} has ${KINDS_OF_BLOCKS[/mem|vm|db/.exec(item)]}`],
+  [/\\bp\\d=s\\d:\\d+/, (item, [pointer, slot, bytes]) => `pointer p${pointer} leads to ${bytes} bytes or more of the block in s${slot}`],
+];
+
+function legend_of(lines) {
+  return LEGEND.flatMap(([form, said]) => {
+    const item = lines.map(({ known }) => form.exec(known)).find((found) => found)?.[0];
+    return item ? [`${item}: ${said(item, item.match(/\\d+/g))}`] : [];
+  });
+}
+
 // A line of the page: its number or pc, its code, and what is known there.
 class Line {
   constructor(number, code, known, pc) {
@@ -241,157 +259,6 @@ function most_rounds(code, head, counter) {
   const [{ op, words, known }] = before;
   const bound = op === \"SETK\" ? words[2] : new RegExp(\"\\\\b\" + words[2] + \"<=(\\\\d+)\").exec(known)?.[1];
   return bound === undefined ? null : +bound + 1;
-}
-
-// The control-flow graph of a routine. Its nodes are below one another, in the order of the text; jumps on go along lanes on the right,
-// and loops on the left.
-
-const [ROW, GAP, LANE, LETTER] = [19, 20, 11, 7.3];
-
-class Graph {
-  constructor(routine, labels) {
-    this.code = routine.lines.filter((line) => line.op);
-    this.names = this.names_of(routine.lines);
-    this.edges = this.code.flatMap((line, from) => this.edge_of(line, from, labels));
-    this.loops = this.edges.filter((edge) => edge.op === \"LOOP\" && edge.to <= edge.from).map((edge) => loop_of(this.code, edge.to, edge.from));
-    this.nodes = this.nodes_of();
-  }
-
-  // The labels of each instruction, also those on lines before it.
-  names_of(lines) {
-    const names = new Map();
-    let waiting = [];
-    for (const line of lines) {
-      waiting.push(...line.labels);
-      if (!line.op) continue;
-      names.set(line, waiting);
-      waiting = [];
-    }
-    return names;
-  }
-
-  edge_of(line, from, labels) {
-    if (!line.target) return [];
-    const to = this.code.findIndex((other) => this.names.get(other).includes(line.target));
-    const kind = !JUMPS.has(line.op) ? \"refusal\" : to >= 0 && to <= from ? \"loop\" : \"jump\";
-    if (to >= 0) return [{ from, to, kind, op: line.op }];
-    return labels.has(line.target) ? [{ from, to: null, kind: \"outside\", op: line.op }] : [];
-  }
-
-  // Instructions that run one after another, unless one leaves through its edge.
-  nodes_of() {
-    const heads = new Set([0, ...this.edges.map((edge) => edge.to)]);
-    this.code.forEach((line, n) => LAST.has(line.op) && heads.add(n + 1));
-    const nodes = [];
-    this.code.forEach((line, n) => heads.has(n) ? nodes.push([line]) : nodes[nodes.length - 1].push(line));
-    return nodes;
-  }
-
-  // For each target a lane, the nearer the shorter.
-  lanes_of(edges) {
-    const spans = new Map();
-    for (const { from, to } of edges) {
-      const span = spans.get(to) || { to, top: to, end: to };
-      spans.set(to, { to, top: Math.min(span.top, from), end: Math.max(span.end, from) });
-    }
-    const lanes = [];
-    const found = new Map();
-    for (const span of [...spans.values()].sort((a, b) => a.end - a.top - (b.end - b.top))) {
-      let lane = lanes.findIndex((taken) => taken.every((other) => span.end < other.top || other.end < span.top));
-      if (lane < 0) lane = lanes.push([]) - 1;
-      lanes[lane].push(span);
-      found.set(span.to, lane);
-    }
-    return { count: lanes.length, found };
-  }
-
-  // The picture.
-  get svg() {
-    const back = this.edges.filter((edge) => edge.kind === \"loop\" || edge.to !== null && edge.to <= edge.from);
-    const on = this.edges.filter((edge) => edge.to !== null && edge.to > edge.from);
-    const [left, right] = [this.lanes_of(back), this.lanes_of(on)];
-    const rounds = this.loops.some((loop) => loop.most !== null);
-    this.x = 10 + left.count * LANE + (rounds ? 34 : 0);
-    const longest = Math.max(...this.code.map((line) => Math.min(line.text.length, 34)));
-    const digits = Math.max(...this.code.map((line) => line.number.length));
-    this.text_x = this.x + 10 + digits * LETTER;
-    this.end = this.text_x + 10 + longest * LETTER;
-    this.width = this.end + 16 + right.count * LANE;
-    this.drawn = draw(\"g\");
-    this.draw_nodes();
-    for (const edge of on) this.draw_edge(edge, this.end, LANE * (right.found.get(edge.to) + 1), 1);
-    for (const edge of back) this.draw_edge(edge, this.x, -LANE * (left.found.get(edge.to) + 1), -1);
-    for (const edge of this.edges.filter((e) => e.to === null)) this.add(\"path\", { class: \"edge outside\", d: `M${this.end} ${this.y(edge.from)}h14m-4 -4l4 4l-4 4` });
-    for (const loop of this.loops) this.draw_rounds(loop, left);
-    const svg = draw(\"svg\", { viewBox: `0 0 ${this.width} ${this.height}`, width: this.width, height: this.height, role: \"img\", \"aria-label\": this.said }, this.drawn);
-    return svg;
-  }
-
-  add(tag, attributes, ...inside) {
-    this.drawn.append(draw(tag, attributes, ...inside));
-  }
-
-  y(n) {
-    return this.tops[n] + ROW / 2;
-  }
-
-  draw_nodes() {
-    this.tops = [];
-    let y = 0;
-    for (const [k, node_lines] of this.nodes.entries()) {
-      const names = this.names.get(node_lines[0]).map((name) => shown(name) + \":\").join(\" \");
-      y += k ? GAP : names ? 16 : 2;
-      if (k && !LAST.has(this.nodes[k - 1][this.nodes[k - 1].length - 1].op)) this.draw_fall(y);
-      if (names) this.add(\"text\", { class: \"label\", x: this.x + 26, y: y - 5 }, names.slice(0, 34));
-      this.add(\"rect\", { class: \"node\", x: this.x, y, width: this.end - this.x, height: node_lines.length * ROW + 2, rx: 5 });
-      for (const line of node_lines) {
-        this.tops.push(y + 1);
-        this.draw_row(line, y + 1);
-        y += ROW;
-      }
-      y += 2;
-    }
-    this.height = y + 4;
-  }
-
-  draw_row(line, y) {
-    const kind = line.findings.some((f) => f.kind === \"error\") ? \"refused\" : line.causes.length ? \"cause\" : line.findings.length ? \"warned\" : \"\";
-    const text = line.text.length > 34 ? line.text.slice(0, 33) + \"\\u2026\" : line.text;
-    this.add(\"a\", { href: \"#\" + line.id, tabindex: -1 },
-      draw(\"rect\", { class: \"row-back \" + kind, x: this.x + 1, y, width: this.end - this.x - 2, height: ROW }),
-      draw(\"text\", { class: \"row-number\", x: this.text_x - 6, y: y + 14 }, line.number),
-      draw(\"text\", { class: \"row-text\", x: this.text_x, y: y + 14 }, shown(text)));
-  }
-
-  // From the end of a node to the next one.
-  draw_fall(y) {
-    const x = this.x + 14;
-    this.add(\"path\", { class: \"edge\", d: `M${x} ${y - GAP}V${y - 5}` });
-    this.add(\"path\", { class: \"head\", d: `M${x - 4} ${y - 6}h8l-4 6z` });
-  }
-
-  draw_edge({ from, to, kind }, x, wide, sign) {
-    const [y, end] = [this.y(from) + 3 * sign, this.y(to) - 4];
-    const bend = 4 * Math.sign(end - y);
-    const lane = x + wide;
-    this.add(\"path\", { class: \"edge \" + kind, d: `M${x} ${y}H${lane - 4 * sign}q${4 * sign} 0 ${4 * sign} ${bend}V${end - bend}q0 ${bend} ${-4 * sign} ${bend}H${x + 6 * sign}` });
-    this.add(\"path\", { class: \"head \" + kind, d: `M${x + 7 * sign} ${end - 4}v8l${-7 * sign} -4z` });
-  }
-
-  // Beside a loop, how often it runs.
-  draw_rounds(loop, left) {
-    if (loop.most === null) return;
-    const [head, end] = [this.code.indexOf(loop.head), this.code.indexOf(loop.end)];
-    const x = this.x - LANE * (left.found.get(head) + 1) - 5;
-    this.add(\"text\", { class: \"rounds\", x, y: (this.y(head) + this.y(end)) / 2 + 4 }, \"\\u00d7\" + loop.most);
-  }
-
-  // The picture in words.
-  get said() {
-    const names = (lines) => lines.length > 1 ? `${lines[0].number} to ${lines[lines.length - 1].number}` : lines[0].number;
-    const edges = this.edges.filter((edge) => edge.to !== null).map((edge) => `${this.code[edge.from].number} to ${this.code[edge.to].number}${edge.kind === \"refusal\" ? \" if refused\" : \"\"}`);
-    return `Control flow: nodes ${this.nodes.map(names).join(\", \")}; edges ${edges.join(\", \") || \"none\"}`;
-  }
 }
 
 // A heap of chunks in the bytes of a block, as docs/HEAPS.md describes it. Each call does what the crate lmem_heap does, byte for byte.
@@ -2054,58 +1921,30 @@ function through(machine) {
   return { pointer, at, count, writes, found: bytes(at), lies: what_lies_at(machine.kernel, at), meant: meant_words(target), begin, meant_at, meant_bytes };
 }
 
-// A play of a refused routine: its steps in the model, up to the fault.
+// A play of a routine in the model: its steps, with memory as it is before and after each.
 
-const IS_PICTURE = \"This is a picture that the script of this page draws, and not the machine: geos never runs a text that the verifier refuses.\";
 const HUES = 6;
-
-/** @returns {Program | null} the program that a page shows, if the model can play it */
-function program_of({ page, routines }) {
-  if (page.shows === \"faulty\") return null;
-  const lines = routines.flatMap((routine) => routine.lines).filter((line) => line.op);
-  const is_known = lines.every(({ op, words }) => INSTRUCTIONS[op]?.[0].split(\" \").filter((letter) => letter).length === words.length - 1);
-  return is_known && lines.length ? new Program(routines) : null;
-}
 
 /** Removes the mark of the next line. */
 const unmark_line = () => document.querySelectorAll(\".lines .next\").forEach((line) => line.classList.remove(\"next\"));
 const changed_if = (is_changed, text) => node(\"span\", { class: is_changed ? \"changed\" : false }, text);
 
-// The play of one routine, in a panel above its lines.
+// The steps of one routine, which a reader goes through by buttons, a slider or keys.
 class Play {
-  /**
-   * @param {Program} program
-   * @param {number} number the number of the routine
-   */
-  constructor(program, number) {
-    [this.program, this.number, this.place] = [program, number, 0];
-    this.given = given_for(program, number);
-    this.make_panel();
-    this.begin(this.given);
-  }
-
-  make_panel() {
-    const name = this.program.routines[this.number].name;
-    this.input = node(\"input\", { type: \"text\", id: `call-${name}`, \"aria-label\": \"Words and lent blocks\", value: typed_of(this.given), autocomplete: \"off\", spellcheck: \"false\", size: 24 });
-    this.wrong = node(\"span\", { class: \"wrong\", role: \"alert\" });
-    const form = node(\"form\", { class: \"call\" }, node(\"label\", { for: this.input.id }, `Words w0 to w7, then @ and the handle of each lent block: `),
-      this.input, \" \", node(\"button\", {}, \"Play\"), \" \", this.wrong);
-    form.addEventListener(\"submit\", (event) => {
-      event.preventDefault();
-      this.read();
-    });
+  /** @param {Program} program */
+  constructor(program) {
+    [this.program, this.place] = [program, 0];
     this.said = node(\"p\", { class: \"place\", role: \"status\" });
     this.body = node(\"div\", { class: \"picture\" });
-    this.panel = node(\"section\", { class: \"play\", \"aria-label\": `A play of ${name}` }, node(\"p\", { class: \"note\" }, IS_PICTURE),
-      form, node(\"p\", { class: \"quiet\" }, this.made_words()), this.buttons(), this.said, this.body);
-    this.panel.addEventListener(\"keydown\", (event) => this.press(event));
   }
 
-  /** What the model makes before the routine begins. */
-  made_words() {
-    const { slots } = this.program.routines[this.number].entry;
-    if (!slots.size) return \"Memory is empty at first, and the VM file is new.\";
-    return \"The block of each slot has three chunks: 16 with letters, 18 with an array of two elements of 4 bytes, and 20 with `ABCDEF`.\";
+  /**
+   * @param {string} label what a screen reader calls the panel
+   * @param {...Node} before what comes before the steps
+   */
+  make_panel(label, ...before) {
+    this.panel = node(\"section\", { class: \"play\", \"aria-label\": label }, ...before, this.buttons(), this.slider_part(), this.said, this.body);
+    this.panel.addEventListener(\"keydown\", (event) => this.press(event));
   }
 
   buttons() {
@@ -2116,38 +1955,39 @@ class Play {
     };
     this.on = button(\"Next \\u203a\", \"Next step\", () => this.go(this.place + 1));
     return node(\"p\", { class: \"steps-of-play\" },
-      button(\"\\u00ab Begin\", \"To the begin\", () => this.go(0)), \" \", button(\"\\u2039 Back\", \"Step back\", () => this.go(this.place - 1)), \" \",
+      button(\"\\u00ab Start\", \"To the start\", () => this.go(0)), \" \", button(\"\\u2039 Back\", \"Step back\", () => this.go(this.place - 1)), \" \",
       this.on, \" \", button(\"End \\u00bb\", \"To the end\", () => this.go(this.last)), \" \", node(\"span\", { class: \"quiet\" }, \"Keys: arrows, Home, End\"));
+  }
+
+  slider_part() {
+    this.slider = node(\"input\", { type: \"range\", class: \"slider\", min: 0, max: 0, step: 1, \"aria-label\": \"Step\" });
+    this.slider.addEventListener(\"input\", () => this.go(+this.slider.value));
+    return this.slider;
+  }
+
+  /** Whether keys in an element mean something else. */
+  types_in(element) {
+    return element instanceof HTMLInputElement && element !== this.slider;
   }
 
   press(event) {
     const places = { ArrowRight: this.place + 1, ArrowLeft: this.place - 1, Home: 0, End: this.last };
-    if (event.target === this.input || event.ctrlKey || event.altKey || event.metaKey || !(event.key in places)) return;
+    if (this.types_in(event.target) || event.ctrlKey || event.altKey || event.metaKey || !(event.key in places)) return;
     event.preventDefault();
     this.go(places[event.key]);
   }
 
-  read() {
-    try {
-      this.wrong.textContent = \"\";
-      this.begin(given_of(this.input.value, this.program.routines[this.number].entry));
-    } catch (why) {
-      if (!(why instanceof Wrong)) throw why;
-      this.wrong.textContent = why.said;
-    }
-  }
-
-  /** @param {Given} given */
-  begin(given) {
-    this.given = given;
+  /** Plays it to its end, and goes to a place. */
+  begin(place) {
     const machine = this.machine_at(MOST_PLAYED);
     [this.last, this.end] = [machine.steps, machine];
-    this.go(this.last);
+    this.slider.max = this.last;
+    this.go(place ?? this.last);
   }
 
   /** @returns {Machine} the machine after some steps */
   machine_at(place) {
-    const machine = machine_of(this.program, this.number, this.given);
+    const machine = this.start();
     while (machine.steps < place && machine.step());
     return machine;
   }
@@ -2157,8 +1997,10 @@ class Play {
     const before = this.machine_at(this.place - 1);
     const now = this.place === this.last ? this.end : this.machine_at(this.place);
     this.show_place(before, now);
+    this.slider.value = this.place;
+    this.slider.setAttribute(\"aria-valuetext\", `step ${this.place} of ${this.last}`);
     const is_fault = this.place === this.last && now.fault;
-    this.body.replaceChildren(...[is_fault && this.fault_part(now), this.registers(before, now), ...this.blocks(before, now)].filter((part) => part));
+    this.body.replaceChildren(...[is_fault && this.fault_part(now), this.registers(before, now), this.output(before, now), ...this.blocks(before, now)].filter((part) => part));
     this.mark_line(now);
   }
 
@@ -2176,9 +2018,13 @@ class Play {
   }
 
   end_words(machine) {
-    if (machine.has_returned) return \"The routine returns, without a fault. The verifier looks at all paths and all words: try other words.\";
+    if (machine.has_returned) return this.return_words();
     const { next, fault: { rule, said } } = machine;
     return `A fault by ${rule}${next && rule !== \"V1\" ? ` at ${line_words(next)}` : \"\"}: ${said}.`;
+  }
+
+  return_words() {
+    return \"The routine returns.\";
   }
 
   fault_part(machine) {
@@ -2228,7 +2074,16 @@ class Play {
 
   pointer(machine, n, target) {
     const said = `p${n} ${meant_words(target)}, at ${machine.spans[n].at}`;
-    return node(\"span\", { class: target.stale ? \"pointer stale\" : \"pointer\" }, target.stale ? `${said}, stale` : said);
+    if (!target.stale) return node(\"span\", { class: \"pointer\" }, said);
+    return node(\"span\", { class: \"pointer stale\" }, node(\"s\", {}, said), ` stale since ${line_words(this.program.code[target.stale.pc])}`);
+  }
+
+  /** The words that are out, the new one marked. */
+  output(before, now) {
+    const { length } = now.output;
+    if (!length) return null;
+    const is_new = (n) => this.place > 0 && n >= before.output.length;
+    return node(\"p\", { class: \"out\" }, \"output\", ...now.output.flatMap((word, n) => [\" \", changed_if(is_new(n), String(word))]));
   }
 
   /** The blocks of slots and of pointers. */
@@ -2244,7 +2099,7 @@ class Play {
     const chunk_at = new Map(heap.chunks().flatMap(({ chunk, at, len }) => Array.from({ length: len }, (_, n) => [at + n, chunk])));
     const marks = this.marks(now, place);
     const kind_of = (i) => [
-      chunk_at.has(i) && `hue${(chunk_at.get(i) - TABLE) / 2 % HUES}`, this.place && old_bytes && old_bytes[i] !== heap.bytes[i] && \"changed\", marks.get(i),
+      chunk_at.has(i) && `hue${(chunk_at.get(i) - TABLE) / 2 % HUES}`, this.place && old_bytes && (old_bytes[i] ?? 0) !== heap.bytes[i] && \"changed\", marks.get(i),
     ].filter((kind) => kind).join(\" \") || false;
     const bytes = [...heap.bytes.subarray(0, MOST_DRAWN)];
     return node(\"div\", { class: \"block\" }, node(\"h3\", {}, `${block_words(name)}: ${size} bytes at ${place} of the region`),
@@ -2270,10 +2125,228 @@ class Play {
   }
 }
 
-/** @returns {Play | null} the play of a routine, if the model has room for what its entry row requires */
+
+// The control-flow graph of a routine. Its nodes are below one another, in the order of the text; jumps on go along lanes on the right,
+// and loops on the left.
+
+const [ROW, GAP, LANE, LETTER] = [19, 20, 11, 7.3];
+
+class Graph {
+  constructor(routine, labels) {
+    this.code = routine.lines.filter((line) => line.op);
+    this.names = this.names_of(routine.lines);
+    this.edges = this.code.flatMap((line, from) => this.edge_of(line, from, labels));
+    this.loops = this.edges.filter((edge) => edge.op === \"LOOP\" && edge.to <= edge.from).map((edge) => loop_of(this.code, edge.to, edge.from));
+    this.nodes = this.nodes_of();
+  }
+
+  // The labels of each instruction, also those on lines before it.
+  names_of(lines) {
+    const names = new Map();
+    let waiting = [];
+    for (const line of lines) {
+      waiting.push(...line.labels);
+      if (!line.op) continue;
+      names.set(line, waiting);
+      waiting = [];
+    }
+    return names;
+  }
+
+  edge_of(line, from, labels) {
+    if (!line.target) return [];
+    const to = this.code.findIndex((other) => this.names.get(other).includes(line.target));
+    const kind = !JUMPS.has(line.op) ? \"refusal\" : to >= 0 && to <= from ? \"loop\" : \"jump\";
+    if (to >= 0) return [{ from, to, kind, op: line.op }];
+    return labels.has(line.target) ? [{ from, to: null, kind: \"outside\", op: line.op }] : [];
+  }
+
+  // Instructions that run one after another, unless one leaves through its edge.
+  nodes_of() {
+    const heads = new Set([0, ...this.edges.map((edge) => edge.to)]);
+    this.code.forEach((line, n) => LAST.has(line.op) && heads.add(n + 1));
+    const nodes = [];
+    this.code.forEach((line, n) => heads.has(n) ? nodes.push([line]) : nodes[nodes.length - 1].push(line));
+    return nodes;
+  }
+
+  // For each target a lane, the nearer the shorter.
+  lanes_of(edges) {
+    const spans = new Map();
+    for (const { from, to } of edges) {
+      const span = spans.get(to) || { to, top: to, end: to };
+      spans.set(to, { to, top: Math.min(span.top, from), end: Math.max(span.end, from) });
+    }
+    const lanes = [];
+    const found = new Map();
+    for (const span of [...spans.values()].sort((a, b) => a.end - a.top - (b.end - b.top))) {
+      let lane = lanes.findIndex((taken) => taken.every((other) => span.end < other.top || other.end < span.top));
+      if (lane < 0) lane = lanes.push([]) - 1;
+      lanes[lane].push(span);
+      found.set(span.to, lane);
+    }
+    return { count: lanes.length, found };
+  }
+
+  // The picture.
+  get svg() {
+    const back = this.edges.filter((edge) => edge.kind === \"loop\" || edge.to !== null && edge.to <= edge.from);
+    const on = this.edges.filter((edge) => edge.to !== null && edge.to > edge.from);
+    const [left, right] = [this.lanes_of(back), this.lanes_of(on)];
+    const rounds = this.loops.some((loop) => loop.most !== null);
+    this.x = 10 + left.count * LANE + (rounds ? 34 : 0);
+    const longest = Math.max(...this.code.map((line) => Math.min(line.text.length, 34)));
+    const digits = Math.max(...this.code.map((line) => line.number.length));
+    this.text_x = this.x + 10 + digits * LETTER;
+    this.end = this.text_x + 10 + longest * LETTER;
+    this.width = this.end + 16 + right.count * LANE;
+    this.drawn = draw(\"g\");
+    this.draw_nodes();
+    for (const edge of on) this.draw_edge(edge, this.end, LANE * (right.found.get(edge.to) + 1), 1);
+    for (const edge of back) this.draw_edge(edge, this.x, -LANE * (left.found.get(edge.to) + 1), -1);
+    for (const edge of this.edges.filter((e) => e.to === null)) this.add(\"path\", { class: \"edge outside\", d: `M${this.end} ${this.y(edge.from)}h14m-4 -4l4 4l-4 4` });
+    for (const loop of this.loops) this.draw_rounds(loop, left);
+    const svg = draw(\"svg\", { viewBox: `0 0 ${this.width} ${this.height}`, width: this.width, height: this.height, role: \"img\", \"aria-label\": this.said }, this.drawn);
+    return svg;
+  }
+
+  add(tag, attributes, ...inside) {
+    this.drawn.append(draw(tag, attributes, ...inside));
+  }
+
+  y(n) {
+    return this.tops[n] + ROW / 2;
+  }
+
+  draw_nodes() {
+    this.tops = [];
+    let y = 0;
+    for (const [k, node_lines] of this.nodes.entries()) {
+      const names = this.names.get(node_lines[0]).map((name) => shown(name) + \":\").join(\" \");
+      y += k ? GAP : names ? 16 : 2;
+      if (k && !LAST.has(this.nodes[k - 1][this.nodes[k - 1].length - 1].op)) this.draw_fall(y);
+      if (names) this.add(\"text\", { class: \"label\", x: this.x + 26, y: y - 5 }, names.slice(0, 34));
+      this.add(\"rect\", { class: \"node\", x: this.x, y, width: this.end - this.x, height: node_lines.length * ROW + 2, rx: 5 });
+      for (const line of node_lines) {
+        this.tops.push(y + 1);
+        this.draw_row(line, y + 1);
+        y += ROW;
+      }
+      y += 2;
+    }
+    this.height = y + 4;
+  }
+
+  draw_row(line, y) {
+    const kind = line.findings.some((f) => f.kind === \"error\") ? \"refused\" : line.causes.length ? \"cause\" : line.findings.length ? \"warned\" : \"\";
+    const text = line.text.length > 34 ? line.text.slice(0, 33) + \"\\u2026\" : line.text;
+    this.add(\"a\", { href: \"#\" + line.id, tabindex: -1 },
+      draw(\"rect\", { class: \"row-back \" + kind, x: this.x + 1, y, width: this.end - this.x - 2, height: ROW }),
+      draw(\"text\", { class: \"row-number\", x: this.text_x - 6, y: y + 14 }, line.number),
+      draw(\"text\", { class: \"row-text\", x: this.text_x, y: y + 14 }, shown(text)));
+  }
+
+  // From the end of a node to the next one.
+  draw_fall(y) {
+    const x = this.x + 14;
+    this.add(\"path\", { class: \"edge\", d: `M${x} ${y - GAP}V${y - 5}` });
+    this.add(\"path\", { class: \"head\", d: `M${x - 4} ${y - 6}h8l-4 6z` });
+  }
+
+  draw_edge({ from, to, kind }, x, wide, sign) {
+    const [y, end] = [this.y(from) + 3 * sign, this.y(to) - 4];
+    const bend = 4 * Math.sign(end - y);
+    const lane = x + wide;
+    this.add(\"path\", { class: \"edge \" + kind, d: `M${x} ${y}H${lane - 4 * sign}q${4 * sign} 0 ${4 * sign} ${bend}V${end - bend}q0 ${bend} ${-4 * sign} ${bend}H${x + 6 * sign}` });
+    this.add(\"path\", { class: \"head \" + kind, d: `M${x + 7 * sign} ${end - 4}v8l${-7 * sign} -4z` });
+  }
+
+  // Beside a loop, how often it runs.
+  draw_rounds(loop, left) {
+    if (loop.most === null) return;
+    const [head, end] = [this.code.indexOf(loop.head), this.code.indexOf(loop.end)];
+    const x = this.x - LANE * (left.found.get(head) + 1) - 5;
+    this.add(\"text\", { class: \"rounds\", x, y: (this.y(head) + this.y(end)) / 2 + 4 }, \"\\u00d7\" + loop.most);
+  }
+
+  // The picture in words.
+  get said() {
+    const names = (lines) => lines.length > 1 ? `${lines[0].number} to ${lines[lines.length - 1].number}` : lines[0].number;
+    const edges = this.edges.filter((edge) => edge.to !== null).map((edge) => `${this.code[edge.from].number} to ${this.code[edge.to].number}${edge.kind === \"refusal\" ? \" if refused\" : \"\"}`);
+    return `Control flow: nodes ${this.nodes.map(names).join(\", \")}; edges ${edges.join(\", \") || \"none\"}`;
+  }
+}
+
+// A play of a refused routine: its steps in the model, up to the fault.
+
+const IS_PICTURE = \"This is a picture that the script of this page draws, and not the machine: geos never runs a text that the verifier refuses.\";
+
+/** @returns {Program | null} the program that a page shows, if the model can play it */
+function program_of({ page, routines }) {
+  if (page.shows === \"faulty\") return null;
+  const lines = routines.flatMap((routine) => routine.lines).filter((line) => line.op);
+  const is_known = lines.every(({ op, words }) => INSTRUCTIONS[op]?.[0].split(\" \").filter((letter) => letter).length === words.length - 1);
+  return is_known && lines.length ? new Program(routines) : null;
+}
+
+// The play of a refused routine, in a panel above its lines.
+class RefusedPlay extends Play {
+  /**
+   * @param {Program} program
+   * @param {number} number the number of the routine
+   */
+  constructor(program, number) {
+    super(program);
+    [this.number, this.given] = [number, given_for(program, number)];
+    const name = program.routines[number].name;
+    this.make_panel(`A play of ${name}`, node(\"p\", { class: \"note\" }, IS_PICTURE), this.form_part(name), node(\"p\", { class: \"quiet\" }, this.made_words()));
+    this.begin();
+  }
+
+  form_part(name) {
+    this.input = node(\"input\", { type: \"text\", id: `call-${name}`, \"aria-label\": \"Words and lent blocks\", value: typed_of(this.given), autocomplete: \"off\", spellcheck: \"false\", size: 24 });
+    this.wrong = node(\"span\", { class: \"wrong\", role: \"alert\" });
+    const form = node(\"form\", { class: \"call\" }, node(\"label\", { for: this.input.id }, `Words w0 to w7, then @ and the handle of each lent block: `),
+      this.input, \" \", node(\"button\", {}, \"Play\"), \" \", this.wrong);
+    form.addEventListener(\"submit\", (event) => {
+      event.preventDefault();
+      this.read();
+    });
+    return form;
+  }
+
+  /** What the model makes before the routine begins. */
+  made_words() {
+    const { slots } = this.program.routines[this.number].entry;
+    if (!slots.size) return \"Memory is empty at first, and the VM file is new.\";
+    return \"The block of each slot has three chunks: 16 with letters, 18 with an array of two elements of 4 bytes, and 20 with `ABCDEF`.\";
+  }
+
+  read() {
+    try {
+      this.wrong.textContent = \"\";
+      this.given = given_of(this.input.value, this.program.routines[this.number].entry);
+    } catch (why) {
+      if (!(why instanceof Wrong)) throw why;
+      this.wrong.textContent = why.said;
+      return;
+    }
+    this.begin();
+  }
+
+  start() {
+    return machine_of(this.program, this.number, this.given);
+  }
+
+  return_words() {
+    return \"The routine returns, without a fault. The verifier looks at all paths and all words: try other words.\";
+  }
+}
+
+/** @returns {RefusedPlay | null} the play of a routine, if the model has room for what its entry row requires */
 function play_of(program, number) {
   try {
-    return new Play(program, number);
+    return new RefusedPlay(program, number);
   } catch (why) {
     if (why instanceof Refusal) return null;
     throw why;
@@ -2326,7 +2399,7 @@ function finding_item(finding) {
   return node(\"li\", { class: \"finding \" + finding.kind, id: finding.id, tabindex: \"-1\" },
     node(\"span\", { class: \"rule\" }, name), \" \", node(\"span\", { class: \"said\" }, ...linked(said)),
     is_parted ? node(\"span\", { class: \"cure\" }, ...linked(cure)) : null,
-    RULES[rule] ? node(\"small\", { class: \"means\" }, `${rule} requires: ${RULES[rule]}.`) : null);
+    RULES[rule] ? node(\"small\", { class: \"means\" }, [`${rule} requires: ${RULES[rule]}.`, MEANINGS[rule]].join(\" \").trim()) : null);
 }
 
 // The line of a routine, with its name in bold.
@@ -2386,7 +2459,8 @@ function show_verdict() {
   const said = is_faulty ? `not assembled: ${counted(errors, \"fault\")}` : errors ? `refused: ${counted(errors, \"finding\")}` : \"accepted\";
   $(\"verdict\").textContent = said + (warnings ? `, ${counted(warnings, \"warning\")}` : \"\");
   $(\"verdict\").className = errors ? \"bad\" : warnings ? \"warm\" : \"good\";
-  $(\"about\").textContent = is_faulty ? \"\" : \"Beside each instruction is what the verifier knows before it runs, and how many steps are left at most.\";
+  const legend = legend_of(explained.lines).join(\"; \");
+  $(\"about\").textContent = is_faulty ? \"\" : `Beside each instruction is what the verifier knows before it runs, and how many steps are left at most.${legend && ` ${legend}.`}`;
 }
 
 // The most findings in the list at the top.
