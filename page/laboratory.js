@@ -3,6 +3,8 @@
 const given = JSON.parse($("given").textContent);
 // How many milliseconds after a key the text is explained.
 const REST = 120;
+// What an instruction's place is called.
+const place_word = "line";
 
 const decoded = (base64) => Uint8Array.from(atob(base64), (c) => c.charCodeAt(0));
 
@@ -39,9 +41,15 @@ function effects_object({ kind, routine, said }) {
 
 const escaped = (text) => text.replace(/&/g, "&amp;").replace(/</g, "&lt;").replace(/\r/g, "&#13;");
 
+// The page of an explained text, which has some of the scripts of this page.
+function whole_page({ before, between, after }) {
+  const playing = $("playing").textContent.replace(/^\s*"use strict";\n/, "");
+  return { before, between, after: after.replace("/* playing */\n", () => playing) };
+}
+
 class Laboratory {
   constructor(library, page) {
-    [this.library, this.page] = [library, page];
+    [this.library, this.page] = [library, whole_page(page)];
     this.timer = 0;
   }
 
@@ -60,6 +68,22 @@ class Laboratory {
   clear() {
     $("output").replaceChildren();
     $("blocks").replaceChildren();
+    this.close_steps();
+  }
+
+  close_steps() {
+    $("steps").replaceChildren();
+    $("steps-part").hidden = true;
+    this.mark(null);
+  }
+
+  // Marks the line of the next instruction in the explained text.
+  mark(number) {
+    const page = $("explained").contentDocument;
+    page?.querySelectorAll(".lines .next").forEach((line) => line.classList.remove("next"));
+    const line = number === null ? null : page?.getElementById("L" + number);
+    line?.classList.add("next");
+    line?.scrollIntoView({ block: "nearest" });
   }
 
   // Explains the text when no key has been pressed for a while.
@@ -81,7 +105,8 @@ class Laboratory {
     frame.srcdoc = this.page.before + escaped(is_text ? said : this.text) + this.page.between + escaped(data) + this.page.after;
     $("verdict").textContent = line === 0 ? "accepted" : is_text ? `refused at line ${line}` : `faulty at line ${line}`;
     $("verdict").className = line === 0 ? "good" : "bad";
-    $("run").disabled = line !== 0;
+    for (const id of ["run", "step"]) $(id).disabled = line !== 0;
+    this.close_steps();
   }
 
   // The effects of each routine of a text that is accepted.
@@ -94,7 +119,7 @@ class Laboratory {
 
   // What `work` returns of a new kernel with the image of the text.
   with_kernel(work) {
-    const kernel = new Kernel(this.library);
+    const kernel = new ProvedKernel(this.library);
     try {
       return work(kernel, kernel.load(this.library.assemble(this.text)));
     } finally {
@@ -118,19 +143,47 @@ class Laboratory {
     return found;
   }
 
+  // Runs the script. Returns its commands and what each printed, or nothing if a line is bad.
   run() {
     this.clear();
-    if (!this.is_accepted) return;
+    if (!this.is_accepted) return null;
     try {
       const commands = read_script($("script").value);
-      this.with_kernel((kernel, image) => {
-        const run = new ScriptRun(kernel, image, this.borrows());
-        for (const command of commands) show_command(command, run.printed(command));
+      const borrows = this.borrows();
+      const proved = this.with_kernel((kernel, image) => {
+        const run = new ScriptRun(kernel, image, borrows);
+        const all = commands.map((command) => {
+          const printed = run.printed(command);
+          show_command(command, printed);
+          return { printed, steps: run.steps };
+        });
         show_blocks(kernel);
+        return all;
       });
+      return { commands, borrows, proved };
     } catch (fault) {
       $("output").append(node("li", { class: "fault" }, fault.message));
+      return null;
     }
+  }
+
+  // Runs the script, and lists its calls to step through.
+  step() {
+    const script = this.run();
+    const calls = script ? [...script.commands.keys()].filter((n) => script.commands[n].call) : [];
+    if (!calls.length) return;
+    const lines = $("script").value.split("\n");
+    $("call").replaceChildren(...calls.map((n) => node("option", { value: n }, `${script.commands[n].line}: ${lines[script.commands[n].line - 1].split(";")[0].trim()}`)));
+    const program = program_of_text(this.text);
+    $("call").onchange = () => this.show_steps(program, script, +$("call").value);
+    $("steps-part").hidden = false;
+    this.show_steps(program, script, calls[0]);
+    $("steps").querySelector(".slider")?.focus();
+  }
+
+  show_steps(program, script, number) {
+    this.mark(null);
+    $("steps").replaceChildren(play_of_script(program, script, number, (line) => this.mark(line)).panel);
   }
 }
 
@@ -182,6 +235,8 @@ async function begin() {
   $("example").addEventListener("change", () => laboratory.choose($("example").value));
   $("text").addEventListener("input", () => laboratory.explain_soon());
   $("run").addEventListener("click", () => laboratory.run());
+  $("step").addEventListener("click", () => laboratory.step());
+  $("script").addEventListener("input", () => laboratory.close_steps());
   document.addEventListener("keydown", (event) => {
     if (event.key === "Enter" && event.ctrlKey) laboratory.run();
   });

@@ -6,7 +6,7 @@ const SHORT_BUFFER = 115;
 const WRITE = 1;
 // How many words a run outputs at most, and how many handles a call lists at most here.
 const MOST_WORDS = 1024;
-const MOST_HANDLES = 4096;
+const MOST_LISTED = 4096;
 const SLOTS = [0, 1, 2, 3];
 // Effects as geos names them, with their bits in takhvoi.h, in the order in which geos prints them.
 const EFFECTS = [["output", 1], ...SLOTS.map((slot) => [`reads s${slot}`, 1 << (8 + slot)]), ...SLOTS.map((slot) => [`changes s${slot}`, 1 << (12 + slot)]),
@@ -81,8 +81,8 @@ class Library {
   }
 }
 
-// A kernel, and its VM file in this page's memory.
-class Kernel {
+// A kernel of the library, and its VM file in this page's memory.
+class ProvedKernel {
   constructor(library, area = 65536, region = 65536) {
     this.library = library;
     this.at = library.exports.page_alloc(16n);
@@ -170,8 +170,8 @@ class Kernel {
 
   // The handles that a call lists.
   list(name, ...words) {
-    return this.library.with_room([2 * MOST_HANDLES], (into) => {
-      const [status, count] = this.call(name, [32], ...words, into, BigInt(MOST_HANDLES));
+    return this.library.with_room([2 * MOST_LISTED], (into) => {
+      const [status, count] = this.call(name, [32], ...words, into, BigInt(MOST_LISTED));
       return status === DONE ? Array.from({ length: count }, (_, n) => this.library.number(into + BigInt(2 * n), 16)) : [];
     });
   }

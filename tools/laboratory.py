@@ -12,9 +12,11 @@ import re
 import sys
 from pathlib import Path
 
-from page import EXPLAINED, PLACES, TOP, Page
+from page import EXPLAINED, PLACES, PLAYING, TOP, Page, text_of
 
-LABORATORY = Page("laboratory", ("shared.js", "bytes.js", "library.js", "scripts.js", "laboratory.js"))
+LABORATORY = Page("laboratory", ("library.js", "scripts.js", "steps.js", "laboratory.js"))
+# Stands for the scripts that the laboratory and a page of a text have, so that the laboratory has them once.
+PLAYED = "/* playing */\n"
 # What separates the text of a page from its data.
 BETWEEN = '</pre>\n<pre id="data" hidden>\n'
 
@@ -28,11 +30,13 @@ def reasons() -> dict[int, str]:
 
 
 def script_of(text: Path) -> str:
-    """The script of an example: a file, or the part of its session after the image, or nothing."""
+    """The script of an example: a file, the part of its session after the image, or a call of its first public routine."""
     script, session = text.with_suffix(".script"), text.with_suffix(".session")
     if script.exists():
         return script.read_text()
-    return session.read_text().split("end\n", 1)[1] if session.exists() else ""
+    if session.exists():
+        return session.read_text().split("end\n", 1)[1]
+    return "call " + re.search(r"^routine (\w+) public", text.read_text(), re.M)[1] + "\n"
 
 
 def examples() -> list[dict[str, str]]:
@@ -42,13 +46,14 @@ def examples() -> list[dict[str, str]]:
 
 def page(module: bytes) -> str:
     before, after = EXPLAINED.ends(*PLACES)
+    playing = text_of(PLAYING)
     given = {
         "module": base64.b64encode(gzip.compress(module, mtime=0)).decode(),
         "reasons": reasons(),
-        "page": {"before": before, "between": BETWEEN, "after": after},
+        "page": {"before": before, "between": BETWEEN, "after": after.replace(playing, PLAYED)},
         "examples": examples(),
     }
-    return LABORATORY.whole.replace("<!-- given -->\n", json.dumps(given).replace("<", "\\u003c") + "\n")
+    return LABORATORY.whole.replace(PLAYED, playing).replace("<!-- given -->\n", json.dumps(given).replace("<", "\\u003c") + "\n")
 
 
 def main(module: str, into: str) -> None:

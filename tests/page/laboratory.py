@@ -1,4 +1,5 @@
-"""What geos prints of the laboratory's examples, and of texts with mistakes, as JSON: `laboratory.py TOP GEOS`."""
+"""What geos prints of the laboratory's examples, and of texts with mistakes, as JSON: `laboratory.py TOP GEOS`. Of each example also the
+steps of its script's first call."""
 
 import json
 import re
@@ -38,13 +39,25 @@ def mistakes() -> list[dict[str, str]]:
     return [{"name": name, "text": text, "explained": explained(text)} for name, text in texts if not text.startswith("# 1 ")]
 
 
-def examples() -> list[dict[str, str]]:
+def traced(path: str, script: str) -> list[dict] | None:
+    """The steps of the first call of a script, which begins as `geos trace` does: with a new VM file and no memory block."""
+    call = re.search(r"^[ \t]*call[ \t]+([^;=\n]*?)[ \t]*(?:->.*)?(?:=>.*)?(?:;.*)?$", script, re.M)
+    if not call:
+        return None
+    lines = geos("trace", path, *call[1].split(), "--json").splitlines()
+    steps = [step for step in map(json.loads, lines) if step["kind"] == "step"]
+    return [{name: step[name] for name in ("line", "words", "counters")} for step in steps]
+
+
+def examples() -> list[dict]:
     found = []
     for example in laboratory.examples():
         said = explained(example["text"])
         path = str(TOP / "examples" / example["name"])
-        printed = geos("call", path, given=example["script"]) if verdict(said) == "accepted" else ""
-        found.append({"name": example["name"], "verdict": verdict(said), "printed": printed})
+        is_accepted = verdict(said) == "accepted"
+        printed = geos("call", path, given=example["script"]) if is_accepted else ""
+        steps = traced(path, example["script"]) if is_accepted else None
+        found.append({"name": example["name"], "verdict": verdict(said), "printed": printed, "traced": steps})
     return found
 
 

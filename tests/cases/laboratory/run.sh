@@ -1,4 +1,5 @@
-# The laboratory in a browser: it explains texts as geos does, and the scripts of the examples print what they print with geos.
+# The laboratory in a browser: it explains texts as geos does, the scripts of the examples print what they print with geos, and the steps of calls
+# are those that geos traces.
 . "$top/tests/with_library.sh"
 "$top/library/wasm.sh" takhvoi.wasm >log 2>&1 || { tail -n 3 log; exit 1; }
 python3 -B "$top/tools/laboratory.py" takhvoi.wasm page.html
