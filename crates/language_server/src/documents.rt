@@ -1,5 +1,6 @@
 //! The documents that an editor has open.
 
+use crate::positions::line_of;
 use std::alloc::Global;
 
 /// The maximum number of open documents, and of bytes of each.
@@ -20,6 +21,11 @@ impl Document {
     /// Whether it is a source of the structured language, which the ending of its name tells.
     pub(crate) fn is_source(&self) -> bool {
         self.uri.ends_with(".tkv")
+    }
+
+    /// The line with this number, without its end.
+    pub(crate) fn line(&self, line: usize) -> &str {
+        line_of(&self.text, line)
     }
 }
 

@@ -38,14 +38,13 @@ pub(crate) struct Finding<'d, 'v> {
 }
 
 /// The number that a member of an object has.
-fn number(object: &Value, member: &str) -> Option<usize> {
+pub(crate) fn number(object: &Value, member: &str) -> Option<usize> {
     let number = object.get(member).and_then(Value::as_u64)?;
     usize::try_from(number).ok()
 }
 
 /// A line without its indentation and its comment.
-fn code_span<'d>(document: &'d Document, line: usize) -> Span<'d> {
-    let text = line_of(&document.text, line);
+pub(crate) fn code_in<'d>(document: &Document, line: usize, text: &'d str) -> Span<'d> {
     let code = code_of(document, text).trim_end();
     Span {
         line,
@@ -53,6 +52,11 @@ fn code_span<'d>(document: &'d Document, line: usize) -> Span<'d> {
         start: code.len() - code.trim_start().len().min(code.len()),
         end: code.len(),
     }
+}
+
+/// The line with this number without its indentation and its comment.
+fn code_span<'d>(document: &'d Document, line: usize) -> Span<'d> {
+    code_in(document, line, line_of(&document.text, line))
 }
 
 /// The part of a line that begins at a column, counted from 1.

@@ -7,15 +7,20 @@
 mod actions;
 mod answers;
 mod documents;
+mod edits;
 mod findings;
 mod frames;
+mod heads;
 mod hover;
+mod insertions;
+mod mender;
 mod methods;
 mod names;
 mod outline;
 mod positions;
 mod reading;
 mod reply;
+mod rows;
 mod server;
 
 pub use reading::{Judged, Wanted, put_read};

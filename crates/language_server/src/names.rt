@@ -65,7 +65,7 @@ pub(crate) struct NameUse<'t> {
 }
 
 /// The next word of a line from an offset on.
-fn next_word<'t>(line: usize, code: &'t str, from: usize) -> Option<Span<'t>> {
+pub(crate) fn next_word<'t>(line: usize, code: &'t str, from: usize) -> Option<Span<'t>> {
     let rest = code.as_bytes().get(from..)?;
     let first = rest.iter().position(|byte| is_of_name(*byte))?;
     word_at(line, code, from + first)

@@ -16,7 +16,7 @@ for line in sys.stdin:
     if found["kind"] in ("error", "warning"):
         print(found["line"], found["message"])'
 }
-for name in unmarked budget faulty good; do
+for name in unmarked budget faulty index good; do
     cp "$here/$name.asm" . && found "$1" "$name.asm" >expected
     PATH="$folder/bin:$PATH" timeout 120 nvim --headless -u "$top/editors/neovim/geos.lua" -i NONE -n "$name.asm" -c "luafile $here/session.lua" >messages 2>&1 </dev/null
     cmp expected shown && echo "$name: $(wc -l <shown) shown, $(cat edits), $("$1" check "$name.asm" 2>&1)"
