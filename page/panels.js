@@ -27,9 +27,9 @@ function pointer_cell(run, pointer, place) {
   const what = (target.element ? target.element + " of " : "") + `chunk ${target.chunk} of ${target.key}`;
   if (!target.stale) return register(name, "wide good", what, `${target.len} bytes at ${target.at}`);
   const now = run.now_at(target, place);
-  const step = run.steps[target.stale - 1];
-  const where = now === null ? "no longer there" : now === target.at ? "still there" : `now at ${now}`;
-  const cell = register(name, "wide stale", node("s", {}, what), `stale since ${step.code.split(" ")[0]} at ${step.number}; ${where}`);
+  const { number, code } = run.steps[target.stale - 1];
+  const where = now === null ? "the chunk is gone" : now === target.at ? "the bytes are still there" : `the bytes are now at ${now}`;
+  const cell = register(name, "wide stale", node("s", {}, what), `stale since ${run.place_word} ${number}: ${why_stale(code)}; ${where}`);
   cell.setAttribute("aria-label", `${name} is stale: ${what}, ${where}`);
   return cell;
 }

@@ -1,5 +1,8 @@
 // Goes through the run.
 
+// The most steps that are listed at the top.
+const MOST_MOMENTS = 6;
+
 class Player {
   constructor(run) {
     this.run = run;
@@ -29,8 +32,23 @@ class Player {
     if (run.data.blocks_cut) cuts.push("Notes of blocks were too long: those of later steps are left out.");
     $("cut").textContent = cuts.join(" ");
     $("cut").hidden = !cuts.length;
+    this.list_moments();
     if (this.region.is_empty) $("region").append(node("p", { class: "quiet" }, "This run holds no chunk."));
     else $("region").append(this.region.svg);
+  }
+
+  // Buttons that go to the steps at which a block moves, or a pointer becomes stale.
+  list_moments() {
+    const { moments, skipped } = this.run;
+    const items = moments.slice(0, MOST_MOMENTS).map(({ place, said }) => {
+      const button = node("button", { type: "button" }, `step ${skipped + place}`);
+      button.addEventListener("click", () => this.go(place));
+      return node("li", {}, button, " ", said.join("; "));
+    });
+    const more = moments.length - items.length;
+    if (more > 0) items.push(node("li", { class: "quiet" }, `${more} more`));
+    $("moments").replaceChildren(...items);
+    $("moments").hidden = !items.length;
   }
 
   listen() {
@@ -143,16 +161,8 @@ class Player {
     const { run, place } = this;
     const step = place ? run.steps[place - 1] : null;
     const parts = step ? [`${step.number}: ${step.code} `, node("b", {}, step.did)] : [run.skipped ? `After ${run.skipped} steps. ` : "At the start. "];
-    const moved = run.blocks_at(place).filter((b) => this.has_moved(b));
-    if (moved.length) parts.push(node("i", {}, ` \u2013 ${moved.map((b) => b.key).join(", ")} moved`));
-    const stale = run.targets[place].map((t, n) => t && t.stale === place ? "p" + n : null).filter((name) => name);
-    if (place && stale.length) parts.push(node("i", {}, ` \u2013 ${stale.join(", ")} stale`));
+    for (const said of [...run.moves(place), ...run.stale_since(place)]) parts.push(node("i", {}, ` \u2013 ${said}`));
     $("done").replaceChildren(...parts);
-  }
-
-  has_moved(block) {
-    const was = this.place ? this.run.block(block.key, this.place - 1) : null;
-    return was && was.locks && was.placed && block.placed && was.from !== block.from;
   }
 
   show_line() {

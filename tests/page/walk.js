@@ -26,6 +26,29 @@ function compare(place) {
   if (!is_line) differs.push(`line at ${place}: ${current} and ${line}`);
 }
 
+// The places of a block in the run: those of its first chunks.
+function places_of(name) {
+  const rows = run.blocks.filter(([, owner, handle]) => (owner ? "file block " : "block ") + handle === name);
+  return new Set(rows.map((row) => Math.min(...row[5].map(([, at]) => at))));
+}
+
+// Each step in the list at the top is one after which the page says the same, and blocks were at both places.
+function look_at_moments() {
+  for (const item of document.querySelectorAll("#moments li")) {
+    const button = item.querySelector("button");
+    if (!button) continue;
+    button.click();
+    const said = item.textContent.slice(button.textContent.length).trim().split("; ");
+    const done = document.getElementById("done").textContent;
+    if (button.textContent !== document.getElementById("where").textContent.split(" of ")[0] || !said.every((part) => done.includes(part))) differs.push(`${item.textContent}: ${done}`);
+    for (const [, name, from, to] of item.textContent.matchAll(/((?:file )?block \d+) moved from (\d+) to (\d+)/g)) {
+      if (!places_of(name).has(+from) || !places_of(name).has(+to)) differs.push(item.textContent);
+    }
+    const stale = said.flatMap((part) => /^(p\d(?:, p\d)*) (?:is|are) stale/.exec(part)?.[1].split(", ") ?? []);
+    for (const name of stale) if (!document.querySelector(`[data-register="${name}"] s`)) differs.push(`${name} is not struck out`);
+  }
+}
+
 function walk() {
   // Steps on and back from some places, or through all of a short run.
   const last = player.run.last;
@@ -44,6 +67,7 @@ function walk() {
   const outputs = run.skipped ? run.output.slice(run.output.length - player.run.words.length) : run.output;
   if (player.run.whole && output !== outputs.join()) differs.push("output");
   if (run.states.length < run.steps && !cut.includes(`${run.skipped + 1} to ${run.skipped + run.states.length} of ${run.steps}`)) differs.push("what is left out");
+  look_at_moments();
   press("Home");
   const can = document.querySelectorAll("#lines .can");
   can[can.length - 1].click();

@@ -71,6 +71,9 @@ button:disabled { opacity: .4; cursor: default; }
 #done { grid-column: 1 / -1; font: 13.5px/1.5 var(--mono); min-height: 1.5em; overflow-wrap: anywhere; }
 #done b { color: var(--blue); }
 #done i { font-style: normal; color: var(--warm); }
+#moments { list-style: none; margin: 8px 0 0; padding: 0; font-size: 13px; }
+#moments li { padding: 1px 0; overflow-wrap: anywhere; }
+#moments button { font: 12.5px var(--mono); color: var(--blue); padding: 0 8px; min-height: 24px; }
 #cut { margin-top: 8px; padding: 6px 12px; border-left: 4px solid var(--warm); background: var(--warm-wash); border-radius: 0 6px 6px 0; }
 main { display: grid; grid-template-columns: minmax(0, 9fr) minmax(0, 10fr); gap: 0 20px; align-items: start; }
 #text { position: sticky; top: 92px; }
@@ -104,6 +107,12 @@ main { display: grid; grid-template-columns: minmax(0, 9fr) minmax(0, 10fr); gap
 .set .empty { color: var(--faint); background: none; }
 #region { background: var(--card); border: 1px solid var(--line); border-radius: 10px; padding: 4px; }
 #region svg { display: block; width: 100%; height: auto; font-family: var(--mono); }
+#key { display: flex; flex-wrap: wrap; gap: 0 14px; margin-top: 4px; color: var(--soft); font-size: 12px; }
+#key span::before { content: \"\"; display: inline-block; width: 16px; height: 10px; margin-right: 6px; vertical-align: middle; border: 2px solid var(--blue); border-radius: 3px; }
+#key .file-key::before { border-color: var(--vm); }
+#key .ghost-key::before { border: 1.5px dashed var(--warm); }
+#key .good-key::before, #key .stale-key::before { height: 0; border-width: 2px 0 0; border-color: var(--good); border-radius: 0; }
+#key .stale-key::before { border-top-style: dashed; border-color: var(--bad); }
 .move { transition: transform .45s ease, opacity .3s; }
 .frame rect { fill: none; stroke: var(--blue); stroke-width: 2; }
 .frame.vm rect { stroke: var(--vm); }
@@ -172,6 +181,7 @@ main { display: grid; grid-template-columns: minmax(0, 9fr) minmax(0, 10fr); gap
 <output id=\"where\" for=\"slider\"></output>
 <p id=\"done\" role=\"status\" aria-live=\"polite\"></p>
 </nav>
+<ol id=\"moments\" aria-label=\"Steps at which a block moves or a pointer becomes stale\" hidden></ol>
 <p id=\"cut\" hidden></p>
 <main>
 <section id=\"text\" aria-labelledby=\"text-title\">
@@ -180,12 +190,13 @@ main { display: grid; grid-template-columns: minmax(0, 9fr) minmax(0, 10fr); gap
 </section>
 <section id=\"state\">
 <section aria-labelledby=\"registers-title\">
-<h2 id=\"registers-title\">Registers</h2>
+<h2 id=\"registers-title\">Registers <small>words w, counters k, slots s with locked blocks, pointers p to bytes of a chunk</small></h2>
 <div id=\"registers\"></div>
 </section>
 <section aria-labelledby=\"region-title\">
-<h2 id=\"region-title\">Region <small id=\"region-about\"></small></h2>
+<h2 id=\"region-title\">Region <small>the memory of all blocks, by its bytes</small></h2>
 <div id=\"region\"></div>
+<p id=\"key\" aria-hidden=\"true\"><span class=\"block-key\">block</span><span class=\"file-key\">block of the file</span><span class=\"ghost-key\">place before a move</span><span class=\"good-key\">pointer</span><span class=\"stale-key\">stale pointer</span></p>
 </section>
 <section aria-labelledby=\"blocks-title\">
 <h2 id=\"blocks-title\">Blocks</h2>

@@ -102,6 +102,19 @@ const text_of = (bytes) => new TextDecoder().decode(Uint8Array.from(bytes, (c) =
 // What instructions on the VM file do.
 const COMMITS = { VUPDATE: \"current area committed\", VSAVE: \"saved area committed\", VREVERT: \"back to the saved area\", VDIRTY: \"block marked as changed\", IDIRTY: \"group marked as changed\" };
 
+// Instructions that make pointers into their block stale, since its chunks may move, and those that unlock it.
+const MOVING = new Set(\"LALLOC LFREE LREALLOC LINS LDEL LCONTRACT CANEW CAADD CAINS CADEL CAZERO CARESIZE INEW IFREE IREALLOC IINS IDEL\".split(\" \"));
+const UNLOCKING = new Set([\"MUNLOCK\", \"VUNLOCK\", \"IUNLOCK\"]);
+
+const PASSING = { CALL: \"the called routine does not know it\", RET: \"the caller does not know it\" };
+
+// Why a pointer is stale after an instruction.
+function why_stale(code) {
+  const name = code.split(\" \")[0];
+  if (MOVING.has(name)) return `${name} may move its chunk`;
+  return UNLOCKING.has(name) ? `${name} unlocks its block` : PASSING[name] ?? \"it is not known on each path to here\";
+}
+
 const OWNERS = [\"block\", \"file block\"];
 const key_of = (owner, handle) => OWNERS[owner] + \" \" + handle;
 
@@ -158,6 +171,7 @@ class Run {
   constructor(data) {
     this.data = data;
     this.file = shown(text_of(data.file));
+    this.place_word = data.text ? \"line\" : \"pc\";
     this.call = data.call.map(text_of).map(shown).join(\" \");
     this.lines = lines_of(text_of(data.explained)).map(explained_line);
     this.steps = lines_of(text_of(data.traced)).slice(0, -1).map(traced_line).slice(0, data.states.length);
@@ -173,6 +187,35 @@ class Run {
     this.find_lines();
     this.targets = this.pointer_targets();
     this.commits = this.file_changes();
+    this.moments = this.find_moments();
+  }
+
+  // Blocks that moved in the step before a place.
+  moves(place) {
+    return this.blocks_at(place).filter((block) => this.has_changed(block.key, place)).flatMap((block) => {
+      const was = place ? this.block(block.key, place - 1) : null;
+      return was && was.locks && was.placed && block.placed && was.from !== block.from ? [`${block.key} moved from ${was.from} to ${block.from}`] : [];
+    });
+  }
+
+  // Pointers that are stale since the step before a place, and why.
+  stale_since(place) {
+    const names = this.targets[place].flatMap((target, n) => target && place && target.stale === place ? [\"p\" + n] : []);
+    return names.length ? [`${names.join(\", \")} ${names.length > 1 ? \"are\" : \"is\"} stale: ${why_stale(this.steps[place - 1].code)}`] : [];
+  }
+
+  // Whether an instruction moves chunks or unlocks a block in the step before a place.
+  ends_pointers(place) {
+    const name = place ? this.steps[place - 1].code.split(\" \")[0] : \"\";
+    return MOVING.has(name) || UNLOCKING.has(name);
+  }
+
+  // What a reader looks for: the places before which a block moved, or an instruction made a pointer stale.
+  find_moments() {
+    const places = new Set([...this.blocks.values()].flatMap((history) => history.map((entry) => entry.place)));
+    this.targets.forEach((targets, place) => targets.some((target) => target?.stale === place) && places.add(place));
+    const found = [...places].filter((place) => place > 0 && place <= this.last).sort((a, b) => a - b);
+    return found.map((place) => ({ place, said: [...this.moves(place), ...(this.ends_pointers(place) ? this.stale_since(place) : [])] })).filter(({ said }) => said.length);
   }
 
   // How many words are out at each place.
