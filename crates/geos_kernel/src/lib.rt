@@ -15,6 +15,7 @@ mod law;
 mod local_calls;
 mod noted;
 mod refused;
+mod shown;
 mod span;
 mod vm_calls;
 
