@@ -24,12 +24,13 @@ plan() {
         sed "s|@VERSION@|$version|; s|@ABI@|$abi|" "$top/library/$file.in" >"$work/$file" || return
     done
     awk -v version="$version" -v date="$date" -f "$top/install/header.awk" "$made/takhvoi.h" "$made/takhvoi_file.h" >"$work/takhvoi.3" || return
-    go include "$made/takhvoi.h" "$made/takhvoi_file.h" "$made/takhvoi_tested.h" "$top/library/takhvoi.hpp" "$top/library/takhvoi_result.hpp"
+    go include "$made/takhvoi.h" "$made/takhvoi_file.h" "$made/takhvoi_tested.h" "$top/library/takhvoi.hpp" "$top/library/takhvoi_shown.hpp" "$top/library/takhvoi_result.hpp"
     go lib "$made/libtakhvoi.a" "$made/libtakhvoi.so.$abi"
     go lib/pkgconfig "$work/takhvoi.pc"
     go lib/cmake/takhvoi "$work/takhvoiConfig.cmake" "$work/takhvoiConfigVersion.cmake"
     go share/man/man3 "$work/takhvoi.3"
-    go share/takhvoi/python "$top/bindings/python/takhvoi.py" "$top/bindings/python/_takhvoi.py"
+    go share/takhvoi/python "$top/bindings/python/takhvoi.py" "$top/bindings/python/_takhvoi.py" \
+        "$top/bindings/python/takhvoi_shown.py"
     go share/takhvoi/rust "$top/bindings/rust/Cargo.toml" "$top/bindings/rust/build.rs"
     go share/takhvoi/rust/src "$top"/bindings/rust/src/*.rs
     go share/takhvoi/examples "$top/library/book.c" "$top/library/book.cpp" "$top/library/starting.asm" "$top/bindings/python/book.py" \

@@ -24,7 +24,7 @@ function take(text,   count, i, name, parameters, parameter, word, args, tests, 
             kind = parameter[i]
             sub(/ *[*].*/, "", kind)
             tests = tests (tests == "" ? "" : " || ") "(" word[i] " == NULL && " word[i + 1] " > 0)"
-            none = none "    uint16_t no_" word[i] " = 0;\n"
+            none = none "    uint64_t no_" word[i] " = 0;\n"
             args = args word[i] " != NULL ? " word[i] " : (" kind " *)&no_" word[i]
         } else {
             tests = tests (tests == "" ? "" : " || ") word[i] " == NULL"

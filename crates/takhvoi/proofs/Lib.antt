@@ -2,6 +2,7 @@ pub mod Calling
 pub mod Found
 pub mod Grouped
 pub mod Lines
+pub mod Listed
 pub mod Looking
 pub mod Named
 pub mod Notes

@@ -10,3 +10,7 @@ pub mod Own
 pub mod Room
 pub mod Starts
 pub mod Texts
+pub mod Entries
+pub mod Records
+pub mod Routines
+pub mod Shown

@@ -1,11 +1,12 @@
 -- The results of calls on texts and images.
-use Rattle.std.specs.Prelude.{◌≡◌, ◌<◌, ◌≤◌, ◌-◌, ◌⊎◌, ℕ, true, List, length, Ok, Some, slice_get, slice_index_or}
+use Rattle.std.specs.Prelude.{◌≡◌, ◌<◌, ◌≤◌, ◌-◌, ◌⊎◌, ℕ, true, List, length, Ok, Err, Some, slice_get, slice_index_or}
 use Rattle.lmem_raw.specs.Bytes.{with_part}
 use Rattle.geos_image.specs.Parts.{Parts}
 use Rattle.geos_image.specs.Reading.{image_at}
 use Rattle.geos_listing.specs.Listing.{listing}
 use Rattle.geos_source.specs.declared.fault.BadLine as fault
 use Rattle.geos_source.specs.InstrLines.{instr_lines}
+use Rattle.geos_source.specs.Texts.{code_of}
 use Rattle.geos_verify.specs.declared.rule.Reject.{Reject}
 use Rattle.geos_verify.specs.Rules.{FirstRefusal, IsChecked}
 use Rattle.geos_asm.specs.Assembling.{HasNoRows, IsAssembled, IsWhyNoImage}
@@ -67,3 +68,7 @@ IsJudged text line =
 -- the explanation is of whole lines, one at least, and the line is that of the text's first fault or refusal
 abbrev pub IsExplainedText : List ℕ → ℕ → List ℕ → Type 0
 IsExplainedText text line explanation = EndsLine explanation × IsJudged text line
+
+-- the first fault of a text without code is in this line
+abbrev pub FailsAt : List ℕ → ℕ → Type 0
+FailsAt text line = (bad : fault.BadLine) × (code_of text ≡ Err bad) × (line ≡ bad.line)

@@ -91,7 +91,7 @@ struct Said {
 }
 
 /// The number after ` at column ` in the first line of a text; otherwise 0.
-fn column_in(told: &[u8]) -> u64 {
+pub(crate) fn column_in(told: &[u8]) -> u64 {
     const COLUMN: &[u8] = b" at column ";
     let (line, _behind) = first_line(told);
     let Some(at) = line
@@ -113,7 +113,7 @@ fn column_in(told: &[u8]) -> u64 {
 }
 
 /// The line of an instruction.
-fn line_of(lines: &[u32], pc: u16) -> u64
+pub(crate) fn line_of(lines: &[u32], pc: u16) -> u64
     ensures { result ≡ slice_index_or lines.now pc 0 }
 {
     match lines.get(usize::from(pc)) {
@@ -144,7 +144,7 @@ fn of_assembled(alloc: Global, text: &[u8], assembled: Assembled) -> Result<Said
 }
 
 /// Why no rows are found for the routine of a text that begins on a line.
-fn why_no_rows(
+pub(crate) fn why_no_rows(
     alloc: Global,
     line: usize,
     cause: &Cause,
