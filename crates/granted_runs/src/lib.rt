@@ -6,4 +6,4 @@
 mod run;
 
 pub use geos_machine::RoutineCall;
-pub use run::run_granted;
+pub use run::{run_granted, watch_granted};

@@ -1,6 +1,6 @@
 //! Runs that leave what is not granted as it was.
 
-ghost use Rattle.std.specs.Prelude.{◌≡◌, ◌≤◌, true};
+ghost use Rattle.std.specs.Prelude.{◌≡◌, ◌≤◌, true, IfErr, IfOk};
 ghost use Rattle.geos_calls.specs.VmFile.{VmFile};
 ghost use Rattle.geos_verify.specs.Entry.{admits, entry_slots};
 ghost use Rattle.geos_kernel.specs.View.{IsFileOf};
@@ -10,7 +10,8 @@ ghost use Rattle.geos_semantics.specs.Lists.{Each};
 ghost use Rattle.granted_runs.specs.Keeps.{RanWithin};
 
 use geos_kernel::Kernel;
-use geos_machine::{Follow, Machine, Outcome, RoutineCall};
+use geos_machine::{Follow, Machine, Outcome, RoutineCall, Trace, Watch};
+use std::alloc::{AllocError, Global};
 use vm_file::Device;
 
 /// The same words, each of which is at most 65,535.
@@ -56,4 +57,30 @@ pub fn run_granted<'m, D: Device + Drop, F: Follow>(
     let outcome = machine.run_in_place(call, kernel, follower);
     let _taken = kernel.taken();
     outcome
+}
+
+/// Runs a routine as `run_granted` does, and shows a watcher the machine and the kernel before each step. What the run needs for this is
+/// allocated here; `AllocError` if the allocator refuses, and then nothing has changed.
+pub fn watch_granted<D: Device + Drop, W: Watch>(
+    alloc: Global,
+    machine: &mut Machine,
+    call: &RoutineCall<'_>,
+    kernel: &mut Kernel<D>,
+    watcher: &mut W,
+) -> Result<Outcome, AllocError>
+    requires admitted { admits call.now.checked.now call.now.routine call.now.words.now ≡ true }
+    requires lent { Lends kernel.old.core (entry_slots call.now.checked.now call.now.routine) call.now.handles.now }
+    ensures gave { IfOk result (Gave D.medium call.now.checked.now call.now.routine call.now.words.now call.now.handles.now kernel.old kernel.new) }
+    ensures within { IfOk result (λ outcome. (f : VmFile) → IsFileOf (D.medium.honest kernel.old.device) kernel.old.core f
+        → RanWithin (D.medium.honest kernel.old.device) (Throughout D.medium kernel.old.device kernel.new.device)
+        call.now.checked.now call.now.routine call.now.words.now call.now.handles.now kernel.old.core kernel.new.core outcome f) }
+    ensures none { IfErr result (λ _. kernel.new ≡ kernel.old) }
+{
+    let mut trace = Trace::new(alloc, 0, 0, 0)?;
+    kernel.memory_is_legal();
+    let _words = copied(call.words);
+    let _image = call.checked.image();
+    let outcome = machine.trace_watched(call, kernel, &mut trace, watcher);
+    let _taken = kernel.taken();
+    Ok(outcome)
 }
