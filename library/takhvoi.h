@@ -318,6 +318,108 @@ TAKHVOI_CALL uint32_t takhvoi_explain(const uint8_t *image, size_t image_len, ui
 TAKHVOI_CALL uint32_t takhvoi_explain_text(const uint8_t *text, size_t text_len, uint8_t *into, size_t room, uint64_t *told, uint64_t *line,
                                            uint64_t *column);
 
+/* What a debugger or an editor shows. These calls write records: as many as there is room for, and the rest of `into` is left as it was. `count`
+ * tells how many there are. Offsets and sizes are in bytes. They change nothing, except takhvoi_trace and takhvoi_memory_at, which run a
+ * routine. */
+
+/* A block in memory, of either owner, or a group: where it begins in the region, its size, and how often it is locked. */
+typedef struct takhvoi_place {
+    takhvoi_block block;
+    uint32_t at;
+    uint32_t size;
+    uint32_t locks;
+} takhvoi_place;
+/* All blocks in memory, in the order in which they lie in the region. No two overlap. */
+TAKHVOI_CALL uint32_t takhvoi_places(takhvoi_kernel *kernel, takhvoi_place *into, size_t room, uint32_t *count);
+/* Copies `len` bytes of the region from an offset on. BAD_SIZE if the region has fewer; then `into` is left as it was. */
+TAKHVOI_CALL uint32_t takhvoi_region(takhvoi_kernel *kernel, uint32_t at, uint8_t *into, size_t len);
+
+/* A chunk of a block in memory, or an item of a group: its handle, where its bytes begin in the region, and how many there are. */
+typedef struct takhvoi_chunk {
+    uint32_t handle;
+    uint32_t at;
+    uint32_t len;
+} takhvoi_chunk;
+/* The chunks of a block in memory, locked or not, by rising handles. BAD_HANDLE if the block is not in memory. */
+TAKHVOI_CALL uint32_t takhvoi_chunks(takhvoi_kernel *kernel, takhvoi_block block, takhvoi_chunk *into, size_t room, uint32_t *count);
+
+/* A block or group of the VM file, as it is now. `size` is that of the block in memory, or in the file if it is not in memory. `in_memory` and
+ * `marked` are 1 or 0. */
+typedef struct takhvoi_entry {
+    uint32_t handle;
+    uint32_t user_id;
+    uint32_t size;
+    uint32_t in_memory;
+    uint32_t marked;
+    uint32_t locks;
+} takhvoi_entry;
+/* All blocks and groups of the VM file, by rising handles. */
+TAKHVOI_CALL uint32_t takhvoi_entries(takhvoi_kernel *kernel, takhvoi_entry *into, size_t room, uint32_t *count);
+
+/* A routine of an image: its name, and zeros up to 16 bytes; 1 if it is public, otherwise 0; its first instruction, and how many it has; its
+ * budget; the bounds of w0 to w7 where it begins; and what s0 to s3 hold there: 0 nothing, 1 a block of memory, 2 a block of the file, 3 one that
+ * is marked, 4 a group, 5 a group that is marked, 6 a lent block of the file, 7 one that is marked. */
+typedef struct takhvoi_routine_entry {
+    uint8_t name[16];
+    uint32_t is_public;
+    uint32_t first;
+    uint32_t length;
+    uint32_t budget;
+    uint16_t bounds[8];
+    uint8_t slots[4];
+} takhvoi_routine_entry;
+/* The routines of a loaded image, by their numbers from 0 on. NOT_ADMITTED if there is no such image. */
+TAKHVOI_CALL uint32_t takhvoi_routines(takhvoi_kernel *kernel, uint32_t image, takhvoi_routine_entry *into, size_t room, uint32_t *count);
+
+/* The line of each instruction of an assembly text, by instructions from 0 on; lines count from 1. `told` is how many instructions there are, or
+ * the first faulty line (BAD_IMAGE). */
+TAKHVOI_CALL uint32_t takhvoi_lines(const uint8_t *text, size_t text_len, uint32_t *into, size_t room, uint64_t *told);
+
+/* Why a text may not run: a faulty line, a routine for which no rows are found, or an instruction that the verifier refuses by rule `rule`. Only
+ * of a refusal `rule`, `routine` and `instruction` are told; otherwise they are 0. `column` counts bytes of the line from 1, and is 0 if the whole
+ * line is meant. The sentence is `len` bytes of `said`, from `from` on. */
+#define TAKHVOI_FAULTY_LINE 1
+#define TAKHVOI_NO_ROWS 2
+#define TAKHVOI_REFUSAL 3
+typedef struct takhvoi_finding {
+    uint32_t kind;
+    uint32_t line;
+    uint32_t column;
+    uint32_t rule;
+    uint32_t routine;
+    uint32_t instruction;
+    uint32_t from;
+    uint32_t len;
+} takhvoi_finding;
+/* The findings of a text, as `geos asm` prints them, which leaves out those after many; none if the verifier accepts its image. `told` is how
+ * many bytes their sentences have. SHORT_BUFFER if one of the two buffers is too short: then `count` and `told` are told, and both buffers are
+ * left as they were. */
+TAKHVOI_CALL uint32_t takhvoi_findings(const uint8_t *text, size_t text_len, takhvoi_finding *into, size_t room, uint32_t *count, uint8_t *said,
+                                       size_t said_room, uint64_t *told);
+
+/* A machine before a step: the instruction that comes next; where p0 to p3 lead in the region, and how many bytes there are from there on; the
+ * blocks in s0 to s3; w0 to w7; k0 to k3. Bit n of `held` is 1 if slot n holds a block, and bit n of `good` if the verifier knows where pointer n
+ * leads. The other slots and pointers mean nothing: such a pointer is stale, or was never set. */
+typedef struct takhvoi_state {
+    uint32_t instruction;
+    uint32_t pointers[4];
+    uint32_t spans[4];
+    takhvoi_block slots[4];
+    uint16_t words[8];
+    uint16_t counters[4];
+    uint16_t held;
+    uint16_t good;
+} takhvoi_state;
+/* Runs a routine as takhvoi_run does, and tells the state before each step from step `first` on, counted from 0: as many as there is room for.
+ * For a takhvoi_file, call takhvoi_file_flush before it and after it. MEMORY also if there is no memory for notes: then nothing was begun. */
+TAKHVOI_CALL uint32_t takhvoi_trace(takhvoi_kernel *kernel, uint32_t image, uint16_t routine, uint16_t words[8], const uint16_t lent[4],
+                                    uint16_t *output, size_t output_room, uint32_t *count, uint32_t *steps, uint32_t first, takhvoi_state *into,
+                                    size_t room);
+/* Runs a routine as takhvoi_run does, and tells what memory has before a step: its blocks, as takhvoi_places does, and the first `len` bytes of
+ * the region. If the run has no such step, `count` is 0 and `region` is left as it was. */
+TAKHVOI_CALL uint32_t takhvoi_memory_at(takhvoi_kernel *kernel, uint32_t image, uint16_t routine, uint16_t words[8], const uint16_t lent[4],
+                                        uint32_t step, takhvoi_place *into, size_t room, uint32_t *count, uint8_t *region, size_t len);
+
 /* Files of the system. */
 #include "takhvoi_file.h"
 

@@ -236,6 +236,9 @@ public:
     using Lent = std::initializer_list<const LockedBlock *>;
 
     std::uint16_t number() const noexcept { return routine_; }
+    /// The number of its image, and the file, as takhvoi.h has them.
+    std::uint32_t image() const noexcept { return image_; }
+    takhvoi_file *get() const noexcept { return file_; }
     /// Runs it. The first words that it puts out come into `output`, as many as there is room for.
     Result<Outcome> run(const Words &words, Lent lent, std::uint16_t *output, std::size_t room) const {
         std::uint16_t none = 0, handles[4] = {0, 0, 0, 0};
@@ -279,6 +282,9 @@ public:
         return routine_at(*found);
     }
     Routine routine_at(std::uint16_t number) const & noexcept { return Routine(file_.get(), number_, number); }
+    /// Its number, and the kernel, as takhvoi.h has them.
+    std::uint32_t number() const noexcept { return number_; }
+    takhvoi_kernel *kernel() const noexcept { return &file_->kernel; }
     Result<Routine> routine(std::string_view) && = delete;
     Routine routine_at(std::uint16_t) && = delete;
 
@@ -503,4 +509,6 @@ inline Result<Explanation> explain_text(Bytes text) {
 }
 
 } // namespace takhvoi
+
+#include "takhvoi_shown.hpp"
 #endif

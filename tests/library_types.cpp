@@ -101,6 +101,25 @@ void routines(Kernel &kernel) {
     check(kernel.load("none").status() == TAKHVOI_BAD_IMAGE, "no image");
 }
 
+void shown() {
+    Kernel kernel = Kernel::in_memory(1 << 16, 65536).value();
+    const LockedBlock block = kernel.make_block().value();
+    const Chunk chunk = block.make_chunk_of("abc").value();
+    const auto blocks = places(kernel).value();
+    check(blocks.size() == 1 && blocks[0].block.number == block.handle() && blocks[0].locks == 1, "a block has a place");
+    const auto shown_chunks = chunks(kernel, block.name()).value();
+    check(shown_chunks.size() == 1 && shown_chunks[0].handle == chunk.handle() && shown_chunks[0].len == 3, "a chunk has a place");
+    check(is(region(kernel, shown_chunks[0].at, 3).value(), "abc") && region(kernel, 65536, 0).has_value(), "bytes of the region");
+    check(region(kernel, 65535, 2).status() == TAKHVOI_BAD_SIZE, "no bytes past the region");
+    check(chunks(kernel, Name::of_file(1)).status() == TAKHVOI_BAD_HANDLE && entries(kernel).value().empty(), "nothing of the file");
+    const char *text = "routine f public budget 3\n LDI w0 5\n ADD w0 w0 w0\n RET\n";
+    const Image image = kernel.load(assemble(text).value()).value();
+    check(routines(image).value().size() == 1 && lines(text).value() == std::vector<std::uint32_t>{2, 3, 4}, "a routine and its lines");
+    check(findings(text).value().empty() && findings("x").value().size() == 1 && !findings("x")->front().sentence.empty(), "findings");
+    const auto traced = trace(image.routine_at(0), {}, {}, 1, 9).value();
+    check(traced.states.size() == 2 && traced.states[1].words[0] == 10 && traced.outcome.steps == 3, "the states of a run");
+}
+
 void exceptions() {
 #if defined(__cpp_exceptions)
     try {
@@ -122,6 +141,7 @@ int main() {
     bytes(kernel);
     commits(kernel);
     routines(kernel);
+    shown();
     exceptions();
     std::puts(faults ? "faults" : "all is so");
 }

@@ -83,13 +83,54 @@ class RawFile(ctypes.Structure):
     _fields_ = [("kernel", _Kernel), ("fd", ctypes.c_int), ("next", ctypes.c_uint32)]
 
 
+def _numbers(*names: str) -> list[tuple[str, type]]:
+    return [(name, ctypes.c_uint32) for name in names]
+
+
+class RawPlace(ctypes.Structure):
+    _fields_ = _numbers("block", "at", "size", "locks")
+
+
+class RawChunk(ctypes.Structure):
+    _fields_ = _numbers("handle", "at", "len")
+
+
+class RawEntry(ctypes.Structure):
+    _fields_ = _numbers("handle", "user_id", "size", "in_memory", "marked", "locks")
+
+
+class RawRoutine(ctypes.Structure):
+    _fields_ = [
+        ("name", ctypes.c_char * 16),
+        *_numbers("is_public", "first", "length", "budget"),
+        ("bounds", ctypes.c_uint16 * 8),
+        ("slots", ctypes.c_uint8 * 4),
+    ]
+
+
+class RawFinding(ctypes.Structure):
+    _fields_ = _numbers("kind", "line", "column", "rule", "routine", "instruction", "first", "len")
+
+
+class RawState(ctypes.Structure):
+    _fields_ = [
+        ("instruction", ctypes.c_uint32),
+        *((name, ctypes.c_uint32 * 4) for name in ("pointers", "spans", "slots")),
+        ("words", ctypes.c_uint16 * 8),
+        ("counters", ctypes.c_uint16 * 4),
+        ("held", ctypes.c_uint16),
+        ("good", ctypes.c_uint16),
+    ]
+
+
 U16, U32, _SIZE = ctypes.c_uint16, ctypes.c_uint32, ctypes.c_size_t
 _OUT16, _OUT32, _OUT64 = (ctypes.POINTER(it) for it in (U16, U32, ctypes.c_uint64))
+_PLACES, _CHUNKS, _ENTRIES, _ROUTINES, _FINDINGS, _STATES = map(ctypes.POINTER, (RawPlace, RawChunk, RawEntry, RawRoutine, RawFinding, RawState))
 _KERNEL, _BYTES, _ROOM = ctypes.POINTER(RawFile), ctypes.c_char_p, ctypes.POINTER(ctypes.c_uint8)
 
 # What calls take behind the kernel, and the names of these calls.
 _CALLS = {
-    (): "file_close file_update file_save file_revert",
+    (): "file_close file_flush file_update file_save file_revert",
     (U16,): "limit_blocks mlock mfree vlock vdirty vfree vsetmap gfree",
     (U32,): "limit unlock lcontract unload",
     (_OUT16,): "is_sure mnew vgetmap gnew",
@@ -120,8 +161,19 @@ _CALLS = {
     (U16, _OUT16, _SIZE, _OUT32): "ilist",
     (U32, _OUT16, _SIZE, _OUT32): "llist",
     (U32, U16, _OUT16, _OUT16, _OUT16, _SIZE, _OUT32, _OUT32): "file_run",
+    (_PLACES, _SIZE, _OUT32): "places",
+    (U32, _ROOM, _SIZE): "region",
+    (U32, _CHUNKS, _SIZE, _OUT32): "chunks",
+    (_ENTRIES, _SIZE, _OUT32): "entries",
+    (U32, _ROUTINES, _SIZE, _OUT32): "routines",
+    (U32, U16, _OUT16, _OUT16, _OUT16, _SIZE, _OUT32, _OUT32, U32, _STATES, _SIZE): "trace",
+    (U32, U16, _OUT16, _OUT16, U32, _PLACES, _SIZE, _OUT32, _ROOM, _SIZE): "memory_at",
 }
 _TEXT_CALLS = "assemble list explain"
+_SHOWN_CALLS = {
+    (_OUT32, _SIZE, _OUT64): "lines",
+    (_FINDINGS, _SIZE, _OUT32, _ROOM, _SIZE, _OUT64): "findings",
+}
 
 
 def _find() -> str:
@@ -135,7 +187,8 @@ def _find() -> str:
 def _declared(library: ctypes.CDLL) -> ctypes.CDLL:
     takers = [((_KERNEL, *takes), names) for takes, names in _CALLS.items()]
     on_texts = (_BYTES, _SIZE, _ROOM, _SIZE, _OUT64)
-    for takes, names in [*takers, (on_texts, _TEXT_CALLS), ((*on_texts, _OUT64, _OUT64), "explain_text")]:
+    shown = [((_BYTES, _SIZE, *takes), names) for takes, names in _SHOWN_CALLS.items()]
+    for takes, names in [*takers, *shown, (on_texts, _TEXT_CALLS), ((*on_texts, _OUT64, _OUT64), "explain_text")]:
         for name in names.split():
             call = getattr(library, "takhvoi_" + name)
             call.argtypes, call.restype = takes, U32

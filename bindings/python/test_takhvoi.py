@@ -11,6 +11,7 @@ import unittest
 
 import _takhvoi
 import takhvoi
+import takhvoi_shown
 from takhvoi import Error, Kernel
 
 
@@ -176,6 +177,30 @@ class Blocks(unittest.TestCase):
         with self.refuses(114):
             image.run(0)
 
+    def test_shown(self) -> None:
+        kernel = self.kernel
+        with kernel.make_block() as block:
+            chunk = block.make_chunk(b"abc")
+            (place,) = takhvoi_shown.places(kernel)
+            self.assertEqual((place.handle, place.of_file, place.locks), (block.handle, False, 1))
+            (shown,) = takhvoi_shown.chunks(kernel, block.handle)
+            self.assertEqual((shown.handle, takhvoi_shown.region(kernel, shown.at, shown.size)), (chunk.handle, b"abc"))
+        with self.refuses(1):
+            takhvoi_shown.chunks(kernel, 1, of_file=True)
+        with kernel.make_file_block(7):
+            (entry,) = takhvoi_shown.entries(kernel)
+            self.assertEqual((entry.handle, entry.user_id, entry.in_memory, entry.is_marked, entry.locks), (1, 7, True, True, 1))
+        text = "routine f public budget 3\n LDI w0 5\n ADD w0 w0 w0\n RET\n"
+        self.assertEqual((takhvoi_shown.lines(text), takhvoi_shown.findings(text)), ([2, 3, 4], []))
+        (finding,) = takhvoi_shown.findings("routine f public budget 1\n ldi w0 5\n")
+        self.assertEqual((finding.kind, finding.line, finding.column), (1, 2, 2))
+        with kernel.load(takhvoi.assemble(text)) as image:
+            (routine,) = takhvoi_shown.routines(image)
+            self.assertEqual((routine.name, routine.is_public, routine.first, routine.length, routine.budget), ("f", True, 0, 3, 3))
+            outcome, states = takhvoi_shown.trace(image, "f", first=1)
+            self.assertEqual((outcome.steps, [state.words[0] for state in states]), (3, [5, 10]))
+            self.assertEqual(states[0].pointers, [None] * 4)
+
     def test_texts(self) -> None:
         image = takhvoi.assemble("routine f public budget 1\n RET\n")
         self.assertIn("routine f", takhvoi.list_image(image))
@@ -298,9 +323,10 @@ class Header(unittest.TestCase):
         for name in ("NO_KERNEL", "NOT_LOCKED", "BAD_SIZE", "BAD_FILE", "BAD_IMAGE", "REFUSED", "NOT_ADMITTED", "SHORT_BUFFER"):
             self.assertEqual(numbers[name], getattr(_takhvoi, name))
         declared = set(re.findall(r"uint32_t takhvoi_(\w+)\(", header))
-        called = {name for names in [*_takhvoi._CALLS.values(), _takhvoi._TEXT_CALLS, "explain_text abi"] for name in names.split()}
+        shown = _takhvoi._SHOWN_CALLS.values()
+        called = {name for names in [*_takhvoi._CALLS.values(), *shown, _takhvoi._TEXT_CALLS, "explain_text abi"] for name in names.split()}
         # What stands on these in the file's calls.
-        below = {"close", "update", "save", "revert", "create", "open", "run", "step", "step_bytes", "performed", "file_flush"}
+        below = {"close", "update", "save", "revert", "create", "open", "run", "step", "step_bytes", "performed"}
         self.assertEqual(declared - below, called)
 
 

@@ -37,8 +37,8 @@ pub mod effects {
 /// A routine of an image.
 #[derive(Clone, Copy, Debug)]
 pub struct Routine<'i> {
-    image: &'i Image,
-    number: u16,
+    pub(crate) image: &'i Image,
+    pub(crate) number: u16,
 }
 
 impl Image {
@@ -63,7 +63,7 @@ pub struct Outcome {
 }
 
 /// The handles that are lent, where all are of blocks of this kernel's VM file.
-fn handles_of(kernel: &Kernel, lent: Lent<'_>) -> Result<[u16; 4]> {
+pub(crate) fn handles_of(kernel: &Kernel, lent: Lent<'_>) -> Result<[u16; 4]> {
     let mut handles = [0; 4];
     for (handle, block) in handles.iter_mut().zip(lent) {
         *handle = match block {
@@ -113,7 +113,7 @@ impl Kernel {
     }
 
     /// That this kernel has loaded the image.
-    fn own(&self, image: &Image) -> Result<u32> {
+    pub(crate) fn own(&self, image: &Image) -> Result<u32> {
         if image.serial == self.serial {
             Ok(image.number)
         } else {

@@ -113,6 +113,7 @@ mod error;
 mod images;
 mod kernel;
 mod raw;
+mod shown;
 mod texts;
 
 pub use blocks::{Locked, Marked};
@@ -120,4 +121,5 @@ pub use chunks::{Array, ArrayMut, Chunk, ChunkMut};
 pub use error::{Error, Result};
 pub use images::{effects, Image, Lent, Outcome, Routine};
 pub use kernel::{Kernel, Memory, Name, Sizes, VmFile};
+pub use shown::{findings, lines, Entry, Finding, Place, RoutineEntry, ShownChunk, State};
 pub use texts::{assemble, explain, explain_text, list, Explanation};

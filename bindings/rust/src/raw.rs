@@ -23,6 +23,114 @@ impl RawFile {
     pub const NONE: RawFile = RawFile { kernel: RawKernel { at: std::ptr::null_mut(), live: 0 }, fd: -1, next: 0 };
 }
 
+/// A block in memory.
+#[repr(C)]
+#[derive(Clone, Copy, Debug, Default, PartialEq, Eq)]
+pub struct RawPlace {
+    /// Its number.
+    pub block: u32,
+    /// Where it begins in the region.
+    pub at: u32,
+    /// Its size in bytes.
+    pub size: u32,
+    /// How often it is locked.
+    pub locks: u32,
+}
+
+/// A chunk of a block in memory.
+#[repr(C)]
+#[derive(Clone, Copy, Debug, Default, PartialEq, Eq)]
+pub struct RawChunk {
+    /// Its handle.
+    pub handle: u32,
+    /// Where its bytes begin in the region.
+    pub at: u32,
+    /// How many bytes it has.
+    pub len: u32,
+}
+
+/// A block or group of the VM file.
+#[repr(C)]
+#[derive(Clone, Copy, Debug, Default, PartialEq, Eq)]
+pub struct RawEntry {
+    /// Its handle.
+    pub handle: u32,
+    /// Its user ID.
+    pub user_id: u32,
+    /// Its size in bytes.
+    pub size: u32,
+    /// 1 if it is in memory, otherwise 0.
+    pub in_memory: u32,
+    /// 1 if it is marked, otherwise 0.
+    pub marked: u32,
+    /// How often it is locked.
+    pub locks: u32,
+}
+
+/// A routine of an image.
+#[repr(C)]
+#[derive(Clone, Copy, Debug, Default, PartialEq, Eq)]
+pub struct RawRoutine {
+    /// Its name, and zeros.
+    pub name: [u8; 16],
+    /// 1 if it is public, otherwise 0.
+    pub is_public: u32,
+    /// Its first instruction.
+    pub first: u32,
+    /// How many instructions it has.
+    pub length: u32,
+    /// Its budget.
+    pub budget: u32,
+    /// The bounds of w0 to w7 where it begins.
+    pub bounds: [u16; 8],
+    /// What s0 to s3 hold there, by numbers of takhvoi.h.
+    pub slots: [u8; 4],
+}
+
+/// Why a text may not run.
+#[repr(C)]
+#[derive(Clone, Copy, Debug, Default, PartialEq, Eq)]
+pub struct RawFinding {
+    /// Which kind of finding it is.
+    pub kind: u32,
+    /// The line.
+    pub line: u32,
+    /// The column, or 0.
+    pub column: u32,
+    /// The rule, or 0.
+    pub rule: u32,
+    /// The routine of a refusal.
+    pub routine: u32,
+    /// The instruction that is refused.
+    pub instruction: u32,
+    /// Where the sentence begins.
+    pub from: u32,
+    /// How many bytes it has.
+    pub len: u32,
+}
+
+/// A machine before a step.
+#[repr(C)]
+#[derive(Clone, Copy, Debug, Default, PartialEq, Eq)]
+pub struct RawState {
+    /// The instruction that comes next.
+    pub instruction: u32,
+    /// Where p0 to p3 lead in the region.
+    pub pointers: [u32; 4],
+    /// How many bytes there are from there on.
+    pub spans: [u32; 4],
+    /// The numbers of the blocks in s0 to s3.
+    pub slots: [u32; 4],
+    /// w0 to w7.
+    pub words: [u16; 8],
+    /// k0 to k3.
+    pub counters: [u16; 4],
+    /// Bit n is 1 if slot n holds a block.
+    pub held: u16,
+    /// Bit n is 1 if the verifier knows where pointer n leads; otherwise it may be stale.
+    pub good: u16,
+}
+
 /// The interface that these declarations are of.
 pub const ABI: u32 = 1;
 
@@ -119,6 +227,49 @@ extern "C" {
         room: usize,
         count: *mut u32,
         steps: *mut u32,
+    ) -> u32;
+    pub fn takhvoi_places(kernel: *mut RawKernel, into: *mut RawPlace, room: usize, count: *mut u32) -> u32;
+    pub fn takhvoi_region(kernel: *mut RawKernel, at: u32, into: *mut u8, len: usize) -> u32;
+    pub fn takhvoi_chunks(kernel: *mut RawKernel, block: u32, into: *mut RawChunk, room: usize, count: *mut u32) -> u32;
+    pub fn takhvoi_entries(kernel: *mut RawKernel, into: *mut RawEntry, room: usize, count: *mut u32) -> u32;
+    pub fn takhvoi_routines(kernel: *mut RawKernel, image: u32, into: *mut RawRoutine, room: usize, count: *mut u32) -> u32;
+    pub fn takhvoi_lines(text: *const u8, text_len: usize, into: *mut u32, room: usize, told: *mut u64) -> u32;
+    pub fn takhvoi_findings(
+        text: *const u8,
+        text_len: usize,
+        into: *mut RawFinding,
+        room: usize,
+        count: *mut u32,
+        said: *mut u8,
+        said_room: usize,
+        told: *mut u64,
+    ) -> u32;
+    pub fn takhvoi_trace(
+        kernel: *mut RawKernel,
+        image: u32,
+        routine: u16,
+        words: *mut u16,
+        lent: *const u16,
+        output: *mut u16,
+        output_room: usize,
+        count: *mut u32,
+        steps: *mut u32,
+        first: u32,
+        into: *mut RawState,
+        room: usize,
+    ) -> u32;
+    pub fn takhvoi_memory_at(
+        kernel: *mut RawKernel,
+        image: u32,
+        routine: u16,
+        words: *mut u16,
+        lent: *const u16,
+        step: u32,
+        into: *mut RawPlace,
+        room: usize,
+        count: *mut u32,
+        region: *mut u8,
+        len: usize,
     ) -> u32;
     pub fn takhvoi_assemble(text: *const u8, text_len: usize, into: *mut u8, room: usize, told: *mut u64) -> u32;
     pub fn takhvoi_list(image: *const u8, image_len: usize, into: *mut u8, room: usize, told: *mut u64) -> u32;

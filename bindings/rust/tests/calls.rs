@@ -166,6 +166,28 @@ fn a_routine_borrows_a_block() -> Result<()> {
 }
 
 #[test]
+fn memory_and_runs_are_shown() -> Result<()> {
+    let kernel = kernel();
+    let mut block = kernel.make_block()?;
+    let chunk = block.mark()?.make_chunk_of(b"abc")?;
+    let places = kernel.places()?;
+    assert_eq!((places.len(), places[0].name, places[0].locks), (1, block.name(), 1));
+    let shown = kernel.shown_chunks(block.name())?;
+    let mut bytes = [0; 3];
+    kernel.region(shown[0].at, &mut bytes)?;
+    assert_eq!((shown.len(), shown[0].handle, &bytes), (1, u32::from(chunk), b"abc"));
+    assert_eq!(kernel.shown_chunks(Name::File(1)), Err(Error::BadHandle));
+    assert!(kernel.entries()?.is_empty());
+    let text = "routine f public budget 3\n LDI w0 5\n ADD w0 w0 w0\n RET\n";
+    let image = kernel.load(&takhvoi::assemble(text)?)?;
+    assert_eq!((kernel.routines(&image)?.len(), takhvoi::lines(text)?), (1, vec![2, 3, 4]));
+    assert!(takhvoi::findings(text)?.is_empty() && takhvoi::findings("x")?.len() == 1);
+    let (outcome, states) = kernel.trace(image.routine(0), [0; 8], [None; 4], 1, 9)?;
+    assert_eq!((outcome.steps, states.len(), states[1].words[0]), (3, 2, 10));
+    Ok(())
+}
+
+#[test]
 fn handles_are_listed() -> Result<()> {
     let kernel = kernel();
     let mut block = kernel.make_block()?;

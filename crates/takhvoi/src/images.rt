@@ -18,13 +18,14 @@ ghost use Rattle.takhvoi.specs.Images.{EndsRun, FindsRoutine, IsLoaded, IsLowest
 use crate::handle::Handle;
 use crate::held::{put, take};
 use crate::journal::{is_performed, make_room, rest};
+use crate::looks::{Look, Looker};
 use crate::status::{self, BAD_IMAGE, DONE, NO_KERNEL, NO_MEMORY, NOT_ADMITTED, PENDING, REFUSED};
 use crate::system::System;
 use geos_image::{Image, ReadError};
 use geos_kernel::{Kernel, Refusal};
 use geos_machine::{Machine, Outcome, Unwatched, admits};
 use geos_verify::{Checked, Rule, check};
-use granted_runs::{RoutineCall, run_granted};
+use granted_runs::{RoutineCall, run_granted, watch_granted};
 use std::alloc::Global;
 use vm_file::Device;
 
@@ -215,19 +216,23 @@ struct Start {
     handles: [u16; 4],
 }
 
-/// Runs a routine, which leaves what is not granted as it was.
+/// Runs a routine, which leaves what is not granted as it was. `None` if the memory that a look at the run needs is refused; then nothing has
+/// changed.
 fn run_on<'m, D: Device + Drop>(
     machine: &'m mut Machine,
     checked: &Checked,
     start: &Start,
     kernel: &mut Kernel<D>,
-) -> &'m Outcome
+    looker: &'m mut Looker<'_>,
+) -> Option<&'m Outcome>
     requires admitted { admits checked.now start.now.routine start.now.words ≡ true }
     requires lent { Lends kernel.old.core (entry_slots checked.now start.now.routine) start.now.handles }
-    ensures gave { Gave D.medium checked.now start.now.routine start.now.words start.now.handles kernel.old kernel.new result.now }
-    ensures within { (f : VmFile) → IsFileOf (D.medium.honest kernel.old.device) kernel.old.core f
+    ensures gave { IfSome (option_copied result) (λ outcome.
+        Gave D.medium checked.now start.now.routine start.now.words start.now.handles kernel.old kernel.new outcome) }
+    ensures within { IfSome (option_copied result) (λ outcome. (f : VmFile) → IsFileOf (D.medium.honest kernel.old.device) kernel.old.core f
         → RanWithin (D.medium.honest kernel.old.device) (Throughout D.medium kernel.old.device kernel.new.device)
-        checked.now start.now.routine start.now.words start.now.handles kernel.old.core kernel.new.core result.now f }
+        checked.now start.now.routine start.now.words start.now.handles kernel.old.core kernel.new.core outcome f) }
+    ensures none { IfNone (option_copied result) (kernel.new ≡ kernel.old) }
 {
     let call = RoutineCall {
         checked,
@@ -235,10 +240,25 @@ fn run_on<'m, D: Device + Drop>(
         words: &start.words,
         handles: &start.handles,
     };
-    run_granted(machine, &call, kernel, &mut Unwatched)
+    let Looker {
+        alloc,
+        look,
+        outcome,
+    } = looker;
+    match look {
+        Look::Nothing => Some(run_granted(machine, &call, kernel, &mut Unwatched)),
+        _ => match watch_granted(*alloc, machine, &call, kernel, look) {
+            Ok(done) => {
+                *outcome = Some(done);
+                outcome.as_ref()
+            }
+            Err(_) => None,
+        },
+    }
 }
 
-fn run_in(
+/// Runs a routine, while one looks on.
+pub(crate) fn run_in(
     system: &mut System,
     number: u32,
     routine: u16,
@@ -247,6 +267,7 @@ fn run_in(
     output: &mut [u16],
     count: &mut u32,
     steps: &mut u32,
+    looker: &mut Looker<'_>,
 ) -> u32
     ensures ends { EndsRun number routine words.old handles.now words.new output.old output.new count.new steps.new result system.old system.new }
     ensures kept { (result ≡ 0 → ⊥) → (words.new ≡ words.old) × (output.new ≡ output.old) }
@@ -276,7 +297,9 @@ fn run_in(
         words: *words,
         handles: *handles,
     };
-    let outcome = run_on(machine, checked, &start, kernel);
+    let Some(outcome) = run_on(machine, checked, &start, kernel, looker) else {
+        return status::number(Refusal::Memory);
+    };
     rest(kernel, *hosted);
     *words = outcome.words;
     *steps = outcome.steps;
@@ -316,6 +339,7 @@ pub extern "C" fn takhvoi_run(
         output,
         count,
         steps,
+        &mut Looker::none(alloc),
     );
     put(handle, system);
     status

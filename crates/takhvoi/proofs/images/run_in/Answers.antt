@@ -19,12 +19,12 @@ returns-clause-ends c =
     let old = c.make_room.new.kernel in
     let same : old ≡ system.kernel = c.make_room.ensures in
     let image = c.in-Some.checked.now in
-    let outcome = c.run_on-outcome.result.now in
-    let left = c.run_on-outcome.new.kernel.device in
+    let outcome = c.in-Some-run_on.outcome.now in
+    let left = c.run_on.new.kernel.device in
     let loaded : slice_get system.images.items c.args.number ≡ Some (Some image) = c.in-Some.ensures.some in
     let ran : (f : VmFile) → IsFileOf (Unit {0}) old.core f
     → RanWith (Unit {0}) (Throughout medium old.device left) image c.args.routine c.args.words.now c.args.handles.now
-    old.core c.run_on-outcome.new.kernel.core outcome f = c.run_on-outcome.ensures.gave.ran in
+    old.core c.run_on.new.kernel.core outcome f = c.in-Some-run_on.ensures.gave.ran in
     let put : c.put_words.new.into ≡ with_part c.args.output.now 0 outcome.output.items =
     subst (λ ws. c.put_words.new.into ≡ with_part c.args.output.now 0 ws) c.as_slice.ensures.value c.put_words.ensures in
     let count : c.len.result ≡ length outcome.output.items = search rules in
@@ -33,7 +33,7 @@ returns-clause-ends c =
     let known = c.memory_is_legal.ensures.file in
     let first = ran known.0 known.1 in
     let goes : GoesOn old.device left = goes-running old.device left _ (first.stops tt).1 in
-    let within : IfSome (slice_get image.routines c.args.routine) (λ r. outcome.steps ≤ r.budget) = c.run_on-outcome.ensures.gave.budget in (
+    let within : IfSome (slice_get image.routines c.args.routine) (λ r. outcome.steps ≤ r.budget) = c.in-Some-run_on.ensures.gave.budget in (
       refl,
       refl,
       (λ came. inl (runs-from system old same (record {
@@ -45,7 +45,7 @@ returns-clause-ends c =
         ran = λ f is. subst (λ s. RanWith (Unit {0}) (Throughout medium old.device left) image c.args.routine
             c.args.words.now c.args.handles.now old.core s outcome f) (sym c.rest.ensures.core) (ran f is);
         granted = λ f is. subst (λ s. RanWithin (Unit {0}) (Throughout medium old.device left) image c.args.routine
-            c.args.words.now c.args.handles.now old.core s outcome f) (sym c.rest.ensures.core) (c.run_on-outcome.ensures.within f is);
+            c.args.words.now c.args.handles.now old.core s outcome f) (sym c.rest.ensures.core) (c.in-Some-run_on.ensures.within f is);
         device = λ hosted. ap (λ (k : KernelOn HostDevice). k.device) (c.rest.ensures.hosted hosted);
         begins = begins;
         leads = λ hosted. subst (λ (k : KernelOn HostDevice). Leads (bytes_of old.device) k.device) (sym (c.rest.ensures.hosted hosted))
