@@ -1,0 +1,13 @@
+//! The elements of an array, in the bytes of a chunk, as rows of CSV or of a JSON object; and rows of CSV as elements.
+#![tactic(auto)]
+
+mod array;
+mod elements;
+mod escapes;
+mod fault;
+mod new_elements;
+mod printed;
+mod row;
+
+pub use array::{rows_of, with_rows};
+pub use fault::{ArrayFault, RowFault};
