@@ -3,16 +3,14 @@
 ghost use Rattle.vm_blocks.specs.Listed.{NoneLocked};
 ghost use Rattle.geos_shell.specs.Limits.{IsRegion};
 
-use crate::elements::{Elements, array_of};
 use crate::fault::RunFault;
 use crate::making::made;
-use crate::row_reader::{NewElements, RowFault};
-use crate::rows::{Style, fields_in, rows_of, size_of_all};
+use array_rows::{ArrayFault, rows_of, with_rows};
 use geos_cli::{Place, ScriptFault, get_bytes, put_bytes};
 use geos_files::{Locked, lock_to_read, opened, wait_for};
 use geos_kernel::Kernel;
 use geos_shell::{
-    ChunkPath, Field, GetRequest, Lockable, PutRequest, Rows, STANDARD, Sharing, print, read,
+    ChunkPath, GetRequest, Lockable, PutRequest, Rows, STANDARD, Sharing, print, read,
 };
 use std::alloc::Global;
 use vm_file::{Device, FileDevice, VmFile};
@@ -41,32 +39,32 @@ fn print_handles<'a>(rt: &HostRuntime, chunk: &ChunkPath<'_>) -> Result<(), RunF
     }
 }
 
-/// The array in the bytes of a chunk, and its fields, if some are requested.
-fn array_in<'a, 'b>(
-    alloc: Global,
-    chunk: &ChunkPath<'a>,
-    rows: &Rows<'_>,
-    bytes: &'b [u8],
-) -> Result<(Elements<'b>, Option<Vec<Field>>), RunFault<'a>> {
-    let Some(array) = Elements::of(bytes) else {
-        return Err(RunFault::NoArray(chunk.handle, chunk.chunk));
-    };
-    let Some(word) = rows.fields else {
-        return Ok((array, None));
-    };
-    let fields = fields_in(alloc, word).map_err(|_| ScriptFault::Memory)?;
-    match size_of_all(&fields) {
-        _ if array.size == 0 => Err(RunFault::Varying),
-        size if size != array.size => Err(RunFault::OtherSize(array.size, size)),
-        _ => Ok((array, Some(fields))),
+/// The word that names the fields of rows.
+fn fields_of<'a>(rows: &Rows<'a>) -> &'a str {
+    rows.fields.unwrap_or("")
+}
+
+/// The fault of rows of a chunk.
+fn array_fault<'a>(chunk: &ChunkPath<'a>, rows: &Rows<'a>, fault: ArrayFault) -> RunFault<'a> {
+    match fault {
+        ArrayFault::NoArray => RunFault::NoArray(chunk.handle, chunk.chunk),
+        ArrayFault::OtherSize(has, requested) => RunFault::OtherSize(has, requested),
+        ArrayFault::Varying => RunFault::Varying,
+        ArrayFault::Row(row, fault) => RunFault::BadRow(rows.path, row, fault),
+        ArrayFault::Memory => RunFault::Session(ScriptFault::Memory),
     }
 }
 
-/// The fields as a slice.
-fn slice_of(fields: &Option<Vec<Field>>) -> Option<&[Field]> {
-    match fields {
-        Some(fields) => Some(fields.as_slice()),
-        None => None,
+/// The bytes of a chunk.
+fn get_in<'a, D: Device + Drop>(
+    alloc: Global,
+    place: Place,
+    kernel: &mut Kernel<D>,
+) -> Result<Vec<u8>, RunFault<'a>> {
+    match get_bytes(alloc, kernel, place) {
+        Ok(Ok(bytes)) => Ok(bytes),
+        Ok(Err(refusal)) => Err(RunFault::NotDone(refusal.number())),
+        Err(_) => Err(RunFault::Session(ScriptFault::Memory)),
     }
 }
 
@@ -81,19 +79,10 @@ fn array_put<'a, D: Device + Drop>(
     if text.len() as u64 == MOST_ROWS {
         return Err(RunFault::LongRows(rows.path));
     }
-    let old = match get_bytes(alloc, kernel, place_of(chunk)) {
-        Ok(Ok(bytes)) => bytes,
-        Ok(Err(refusal)) => return Err(RunFault::NotDone(refusal.number())),
-        Err(_) => return Err(RunFault::Session(ScriptFault::Memory)),
-    };
-    let (array, fields) = array_in(alloc, chunk, rows, &old)?;
-    match NewElements::of(alloc, text, slice_of(&fields), array.size) {
-        Ok(new) => {
-            let made = array_of(alloc, array.size, &new.bytes, &new.ends);
-            Ok(made.map_err(|_| ScriptFault::Memory)?)
-        }
-        Err((_, RowFault::Memory)) => Err(RunFault::Session(ScriptFault::Memory)),
-        Err((row, fault)) => Err(RunFault::BadRow(rows.path, row, fault)),
+    let old = get_in(alloc, place_of(chunk), kernel)?;
+    match with_rows(alloc, &old, fields_of(rows), text) {
+        Ok(new) => Ok(new),
+        Err(fault) => Err(array_fault(chunk, rows, fault)),
     }
 }
 
@@ -173,11 +162,7 @@ fn bytes_in<'a>(
     let Ok(mut kernel) = Kernel::new(rt.alloc(), region, file) else {
         return Err(RunFault::Session(ScriptFault::Memory));
     };
-    match get_bytes(rt.alloc(), &mut kernel, place) {
-        Ok(Ok(bytes)) => Ok(bytes),
-        Ok(Err(refusal)) => Err(RunFault::NotDone(refusal.number())),
-        Err(_) => Err(RunFault::Session(ScriptFault::Memory)),
-    }
+    get_in(rt.alloc(), place, &mut kernel)
 }
 
 /// The bytes of a chunk of a VM file. The lock is released before the bytes are printed: their reader may open the file next.
@@ -196,19 +181,18 @@ fn bytes_of<'a>(
     bytes_in(rt, place_of(chunk), region, file)
 }
 
-/// The rows of the elements of an array.
-fn array_rows<'a>(
-    alloc: Global,
+/// Prints the elements of an array of these bytes as rows.
+fn print_rows<'a>(
+    rt: &HostRuntime,
     chunk: &ChunkPath<'a>,
-    rows: &Rows<'_>,
+    rows: &Rows<'a>,
     bytes: &[u8],
     json: bool,
-) -> Result<Vec<u8>, RunFault<'a>> {
-    let (array, fields) = array_in(alloc, chunk, rows, bytes)?;
-    let elements = array.all(alloc).map_err(|_| ScriptFault::Memory)?;
-    let style = if json { Style::Json } else { Style::Csv };
-    let printed = rows_of(alloc, style, slice_of(&fields), &elements);
-    Ok(printed.map_err(|_| ScriptFault::Memory)?)
+) -> Result<(), RunFault<'a>> {
+    match rows_of(rt.alloc(), bytes, fields_of(rows), json) {
+        Ok(rows) => Ok(print(rt, &rows)?),
+        Err(fault) => Err(array_fault(chunk, rows, fault)),
+    }
 }
 
 /// Prints the bytes of a chunk of a VM file, or its elements as rows, or as one JSON object. `RunFault::NotDone` if a call of the kernel is
@@ -219,7 +203,7 @@ pub fn get<'a>(rt: &HostRuntime, request: &GetRequest<'a>, json: bool) -> Result
     let chunk = &request.chunk;
     let bytes = bytes_of(rt, chunk, request.region)?;
     match &request.array {
-        Some(rows) => Ok(print(rt, &array_rows(rt.alloc(), chunk, rows, &bytes, json)?)?),
+        Some(rows) => print_rows(rt, chunk, rows, &bytes, json),
         None => Ok(print(rt, &bytes)?),
     }
 }
