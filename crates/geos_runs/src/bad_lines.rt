@@ -3,14 +3,20 @@
 use crate::fault::RunFault;
 use crate::manner::Manner;
 use geos_cli::ScriptFault;
-use geos_image::ReadError;
 use geos_json::JsonLines;
 use geos_lints::{DoubtfulCall, DoubtfulCalls, doubtful_calls};
 use geos_scripts::diagnose_bad_lines;
 use geos_shell::{Named, print, tell};
 use geos_verify::check;
 use json_findings::{Finding, Severity, put_finding, put_more};
+use sentence_text::Text;
 use std::alloc::{AllocError, Global};
+
+/// A path as messages have it.
+pub(crate) fn printed_path(alloc: Global, path: &str) -> Result<String, AllocError> {
+    let path = Named(path);
+    format!(in alloc; "{path}")
+}
 
 /// Writes the warning about a call of the script with the path as an object.
 fn put_doubtful(
@@ -50,24 +56,33 @@ fn warning_objects(
     out.finish()
 }
 
+/// Writes the warning about a call of a script as a line.
+fn put_warning(told: &mut Text, file: &str, call: &DoubtfulCall) {
+    let DoubtfulCall { line, advice } = call;
+    told.put(file);
+    told.put_number(":", *line as u64);
+    told.put(": warning: ");
+    told.put_bytes(&advice.fact);
+    if !advice.cure.is_empty() {
+        told.put(": ");
+        told.put_bytes(&advice.cure);
+    }
+    told.put("\n")
+}
+
 /// The same as lines `FILE:LINE: warning: ..`.
 fn warning_lines(alloc: Global, path: &str, calls: &DoubtfulCalls) -> Result<Vec<u8>, AllocError> {
-    let path = Named(path);
-    let file = format!(in alloc; "{path}")?;
-    let mut told = Vec::new(alloc);
+    let file = printed_path(alloc, path)?;
+    let mut told = Text::new(alloc);
     for call in &calls.list {
-        let line = call.line;
-        let front = format!(in alloc; "{file}:{line}: warning: ")?;
-        told.extend_from_slice(front.as_bytes())?;
-        told.extend_from_slice(&call.advice.sentence(alloc)?)?;
-        told.push(b'\n')?;
+        put_warning(&mut told, &file, call);
     }
-    let more = calls.more;
-    if more > 0 {
-        let rest = format!(in alloc; "{file}: note: and {more} more warnings\n")?;
-        told.extend_from_slice(rest.as_bytes())?;
+    if calls.more > 0 {
+        told.put(&file);
+        told.put_number(": note: and ", calls.more as u64);
+        told.put(" more warnings\n");
     }
-    Ok(told)
+    told.finish()
 }
 
 /// A script that is run with an image.
@@ -81,14 +96,17 @@ pub(crate) struct Script<'s> {
 }
 
 impl Script<'_> {
-    /// Its calls that are probably not meant; none if the verifier refuses the image.
-    fn doubtful_calls(&self, alloc: Global) -> Result<DoubtfulCalls, ReadError> {
-        match check(geos_image::read(alloc, self.image)?) {
-            Ok(checked) => Ok(doubtful_calls(alloc, checked.image(), self.bytes)?),
-            Err(_) => Ok(DoubtfulCalls {
-                list: Vec::new(alloc),
-                more: 0,
-            }),
+    /// Its calls that are probably not meant. `None` if the verifier refuses the image, or if there is no memory.
+    fn doubtful_calls(&self, alloc: Global) -> Option<DoubtfulCalls> {
+        let Ok(image) = geos_image::read(alloc, self.image) else {
+            return None;
+        };
+        let Ok(checked) = check(image) else {
+            return None;
+        };
+        match doubtful_calls(alloc, checked.image(), self.bytes) {
+            Ok(calls) => Some(calls),
+            Err(AllocError) => None,
         }
     }
 
@@ -98,7 +116,7 @@ impl Script<'_> {
             return;
         }
         let alloc = rt.alloc();
-        let Ok(calls) = self.doubtful_calls(alloc) else {
+        let Some(calls) = self.doubtful_calls(alloc) else {
             return;
         };
         if !manner.reports.json {
@@ -118,8 +136,7 @@ impl Script<'_> {
         manner: &Manner,
         line: usize,
     ) -> Result<Vec<u8>, AllocError> {
-        let path = Named(self.path);
-        let file = format!(in alloc; "{path}")?;
+        let file = printed_path(alloc, self.path)?;
         let told = diagnose_bad_lines(alloc, &file, self.image, self.bytes, manner.names);
         let Ok(told) = told else {
             return Err(AllocError);
@@ -127,10 +144,13 @@ impl Script<'_> {
         if !told.is_empty() {
             return Ok(told);
         }
-        let told = format!(in alloc;
-            "{file}:{line}: error: a name in this line has no word, or one that the routine does not admit: no earlier call outputs the right word\n"
-        )?;
-        Ok(told.into_bytes())
+        let mut told = Text::new(alloc);
+        told.put(&file);
+        told.put_number(":", line as u64);
+        told.put(
+            ": error: a name in this line has no word, or one that the routine does not admit: no earlier call outputs the right word\n",
+        );
+        told.finish()
     }
 
     /// The fault of the script, with diagnostics if lines of it are bad and these are required.

@@ -46,10 +46,19 @@ fn has_label(origin: Option<&Origin<'_>>, pc: u16, label: &str) -> bool {
     }
 }
 
+/// Whether a text has no other characters than decimal digits.
+fn has_only_digits(text: &str) -> bool {
+    let mut has_only_digits = true;
+    for byte in text.as_bytes() {
+        has_only_digits = has_only_digits && byte.is_ascii_digit();
+    }
+    has_only_digits
+}
+
 /// Whether an instruction is at a line, which has a number or a label.
 fn is_at(origins: Option<&[Origin<'_>]>, pc: u16, line: &str) -> bool {
     let origin = origin_at(origins, pc);
-    if line.bytes().all(|byte| byte.is_ascii_digit()) {
+    if has_only_digits(line) {
         has_number(origin, pc, line.parse().unwrap_or(u64::MAX))
     } else {
         has_label(origin, pc, line)
@@ -94,7 +103,9 @@ fn pcs_of<'a>(
     let Some(stretch) = stretch_of(image, line.routine) else {
         return Err(RunFault::NoSuchRoutine(line.routine));
     };
-    let pcs = pcs_at(alloc, stretch, origins, line.line).map_err(|_| ScriptFault::Memory)?;
+    let Ok(pcs) = pcs_at(alloc, stretch, origins, line.line) else {
+        return Err(RunFault::Session(ScriptFault::Memory));
+    };
     if pcs.is_empty() {
         return Err(RunFault::NoLine(line.routine, line.line));
     }
@@ -123,8 +134,9 @@ impl Chosen {
         let mut pcs = Vec::new(alloc);
         for line in &choice.lines {
             let more = pcs_of(alloc, image, origins, line)?;
-            pcs.extend_from_slice(more.as_slice())
-                .map_err(|_| ScriptFault::Memory)?;
+            if pcs.extend_from_slice(more.as_slice()).is_err() {
+                return Err(RunFault::Session(ScriptFault::Memory));
+            }
         }
         Ok(Chosen {
             pcs: Some(pcs),
@@ -148,9 +160,10 @@ impl Chosen {
             (Some(_), Err(_)) => false,
             (None, _) => true,
         };
-        let mut conditions = choice.conditions.iter();
-        is_at_line
-            && is_numbered
-            && conditions.all(|condition| condition.is_true(&noted.words, &noted.counters))
+        let mut is_chosen = is_at_line && is_numbered;
+        for condition in &choice.conditions {
+            is_chosen = is_chosen && condition.is_true(&noted.words, &noted.counters);
+        }
+        is_chosen
     }
 }

@@ -2,16 +2,24 @@
 
 ghost use Rattle.vm_blocks.specs.Listed.{NoneLocked};
 
-use crate::bad_lines::Script;
+use crate::bad_lines::{Script, printed_path};
 use crate::fault::RunFault;
 use crate::manner::{Manner, came_to, options_of, output};
 use crate::progress::{ProgressLine, is_shown};
 use geos_cli::{Counted, ScriptFault, Unwatched};
 use geos_kernel::Kernel;
-use geos_shell::{Named, tell};
+use geos_shell::tell;
 use script_tests::{Compared, Part, TestScript, run_comparing};
 use std::io::Write;
 use vm_file::Device;
+
+/// A script of these bytes that is a whole file. A constant would do, but no reference to it is proved to live as long as several others.
+pub(crate) fn whole(_bytes: &[u8]) -> Part<'_> {
+    Part {
+        name: &[],
+        lines: &[],
+    }
+}
 
 /// Runs a script, and prints what it outputs.
 fn compare_in<W: Write, D: Device + Drop>(
@@ -41,8 +49,7 @@ pub(crate) fn compare_script_on<'a, D: Device + Drop>(
 ) -> Result<(), RunFault<'a>>
     requires { NoneLocked kernel.old.core.blocks }
 {
-    let path = Named(script.path);
-    let Ok(path) = format!(in rt.alloc(); "{path}") else {
+    let Ok(path) = printed_path(rt.alloc(), script.path) else {
         return Err(RunFault::Session(ScriptFault::Memory));
     };
     let test = TestScript {
@@ -50,11 +57,13 @@ pub(crate) fn compare_script_on<'a, D: Device + Drop>(
         image: script.image,
         bytes: script.bytes,
         names: manner.names,
-        part: Part::WHOLE,
+        part: whole(script.bytes),
     };
     let mut out = output(rt)?;
     let compared = compare_in(rt, manner, &test, kernel, &mut out)?;
-    out.flush().map_err(|_| ScriptFault::Write)?;
+    if out.flush().is_err() {
+        return Err(RunFault::Session(ScriptFault::Write));
+    }
     if !compared.told.is_empty() {
         tell(rt, manner.reports, &compared.told);
     }

@@ -2,9 +2,10 @@
 
 use crate::testing::Testable;
 use geos_image::{Image, ReadError};
-use geos_text::{first_line, put_numbered};
+use geos_text::first_line;
 use geos_trace::put_instruction;
 use script_tests::Coverage;
+use sentence_text::Text;
 use std::alloc::{AllocError, Global};
 
 /// An instruction, by the line of the text that it is of.
@@ -45,24 +46,29 @@ impl Count {
 /// The columns of a count.
 const COLUMNS: usize = 9;
 
-/// Appends a count, or `-` without instructions, at the right of its columns, and a colon.
-fn put_count(alloc: Global, out: &mut Vec<u8>, count: Option<Count>) -> Result<(), AllocError> {
-    let mut digits = Vec::new(alloc);
+/// A count as it is printed, or `-` without instructions.
+fn digits_of(alloc: Global, count: Option<Count>) -> Text {
+    let mut digits = Text::new(alloc);
     match count {
-        None => digits.push(b'-')?,
-        Some(Count { most: 0, .. }) => digits.extend_from_slice(b"#####")?,
+        None => digits.put("-"),
+        Some(Count { most: 0, .. }) => digits.put("#####"),
         Some(Count { most, has_idle }) => {
-            put_numbered(&mut digits, "", most)?;
-            if has_idle {
-                digits.push(b'*')?;
-            }
+            digits.put_number("", most);
+            digits.put(if has_idle { "*" } else { "" })
         }
     }
-    for _ in digits.len()..COLUMNS {
-        out.push(b' ')?;
+    digits
+}
+
+/// Appends a count at the right of its columns, and a colon.
+fn put_count(alloc: Global, out: &mut Text, count: Option<Count>) {
+    let digits = digits_of(alloc, count);
+    for _ in digits.bytes.len()..COLUMNS {
+        out.put(" ");
     }
-    out.extend_from_slice(&digits)?;
-    out.extend_from_slice(b":")
+    out.put_bytes(&digits.bytes);
+    out.put(":");
+    out.failed = out.failed || digits.failed;
 }
 
 /// The instructions in the order of their lines.
@@ -97,10 +103,18 @@ fn take_line(left: &mut &[Counted], number: u64) -> Option<Count> {
     found
 }
 
-/// Appends the lines of a text without blanks at their ends, each after how often it ran. `lines` has the line of each instruction.
+/// Appends a line without blanks at its end.
+fn put_line(out: &mut Text, line: &[u8]) {
+    let line = line.trim_ascii_end();
+    out.put(if line.is_empty() { "" } else { " " });
+    out.put_bytes(line);
+    out.put("\n")
+}
+
+/// Appends the lines of a text, each after how often it ran. `lines` has the line of each instruction.
 fn put_text(
     alloc: Global,
-    out: &mut Vec<u8>,
+    out: &mut Text,
     text: &[u8],
     lines: &[u32],
     coverage: &Coverage,
@@ -117,13 +131,8 @@ fn put_text(
         let (line, behind) = first_line(rest);
         rest = behind;
         number = number.saturating_add(1);
-        let line = line.trim_ascii_end();
-        put_count(alloc, out, take_line(&mut left, number))?;
-        if !line.is_empty() {
-            out.push(b' ')?;
-            out.extend_from_slice(line)?;
-        }
-        out.push(b'\n')?;
+        put_count(alloc, out, take_line(&mut left, number));
+        put_line(out, line);
     }
     Ok(())
 }
@@ -131,15 +140,15 @@ fn put_text(
 /// Appends the instructions of an image, each after how often it ran and its pc.
 fn put_image(
     alloc: Global,
-    out: &mut Vec<u8>,
+    out: &mut Text,
     image: &Image,
     coverage: &Coverage,
 ) -> Result<(), AllocError> {
     for pc in 0..image.len() {
-        put_count(alloc, out, Some(Count::of(coverage.count(pc))))?;
-        put_numbered(out, " ", u64::from(pc))?;
-        put_instruction(out, image, None, pc)?;
-        out.push(b'\n')?;
+        put_count(alloc, out, Some(Count::of(coverage.count(pc))));
+        out.put_number(" ", u64::from(pc));
+        put_instruction(&mut out.bytes, image, None, pc)?;
+        out.put("\n");
     }
     Ok(())
 }
@@ -162,13 +171,13 @@ pub(crate) fn coverage_text(
     coverage: &Coverage,
 ) -> Result<Vec<u8>, ReadError> {
     let image = geos_image::read(alloc, tested.image)?;
-    let mut out = Vec::new(alloc);
+    let mut out = Text::new(alloc);
     match tested.lines {
         Some(lines) => put_text(alloc, &mut out, tested.text, lines, coverage)?,
         None => put_image(alloc, &mut out, &image, coverage)?,
     }
-    put_numbered(&mut out, "", count_covered(&image, coverage))?;
-    put_numbered(&mut out, " of ", u64::from(image.len()))?;
-    out.extend_from_slice(b" instructions ran\n")?;
-    Ok(out)
+    out.put_number("", count_covered(&image, coverage));
+    out.put_number(" of ", u64::from(image.len()));
+    out.put(" instructions ran\n");
+    Ok(out.finish()?)
 }

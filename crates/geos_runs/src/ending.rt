@@ -13,9 +13,13 @@ const MOST_HANDLES: u16 = 1024;
 
 /// How many blocks of the file are marked as changed.
 fn changed_blocks(kernel: &Kernel<FileDevice>) -> usize {
-    (1..=MOST_HANDLES)
-        .filter(|handle| kernel.marked(*handle))
-        .count()
+    let mut changed: usize = 0;
+    for handle in 1..=MOST_HANDLES {
+        if kernel.marked(handle) {
+            changed = changed.saturating_add(1);
+        }
+    }
+    changed
 }
 
 /// Reports the changed blocks of the file with the path that no commit has written, as a diagnostic.
@@ -35,6 +39,26 @@ fn tell_of_lost(rt: &HostRuntime, manner: &Manner, path: &str, kernel: &Kernel<F
     }
 }
 
+/// What is committed at the end of a run.
+fn how_of(commit: Option<EndCommit>) -> Option<How> {
+    match commit {
+        Some(EndCommit::Update) => Some(How::Update),
+        Some(EndCommit::Save) => Some(How::Save),
+        None => None,
+    }
+}
+
+/// Commits. `RunFault::NotDone` if that is refused.
+fn commit<'a>(kernel: &mut Kernel<FileDevice>, how: How) -> Result<(), RunFault<'a>> {
+    if !kernel.vm_unlocked() {
+        return Err(RunFault::NotDone(Refusal::Locked.number()));
+    }
+    match kernel.commit(how) {
+        Ok(()) => Ok(()),
+        Err(refusal) => Err(RunFault::NotDone(refusal.number())),
+    }
+}
+
 /// Ends a run on the file with the path. If it came to its end, it commits as asked; `RunFault::NotDone` if the commit is refused.
 pub(crate) fn ended<'a>(
     rt: &HostRuntime,
@@ -43,21 +67,13 @@ pub(crate) fn ended<'a>(
     kernel: &mut Kernel<FileDevice>,
     done: Result<(), RunFault<'a>>,
 ) -> Result<(), RunFault<'a>> {
-    let how = match manner.commit {
-        Some(EndCommit::Update) if done.is_ok() => How::Update,
-        Some(EndCommit::Save) if done.is_ok() => How::Save,
+    match how_of(manner.commit) {
+        Some(how) if done.is_ok() => commit(kernel, how),
         _ => {
             if manner.reports.diagnostics || manner.reports.json {
                 tell_of_lost(rt, manner, path, kernel);
             }
-            return done;
+            done
         }
-    };
-    if !kernel.vm_unlocked() {
-        return Err(RunFault::NotDone(Refusal::Locked.number()));
-    }
-    match kernel.commit(how) {
-        Ok(()) => Ok(()),
-        Err(refusal) => Err(RunFault::NotDone(refusal.number())),
     }
 }

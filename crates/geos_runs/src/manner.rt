@@ -13,6 +13,7 @@ use geos_cli::{
 use geos_kernel::Kernel;
 use geos_scripts::NameUse;
 use geos_shell::{CallWords, Digits, EndCommit, OutputForm, Reports, Room};
+use geos_text::number;
 use std::alloc::Global;
 use std::io;
 use std::io::{BufWriter, Printer, Write};
@@ -135,7 +136,9 @@ pub(crate) fn run_script_on<'a, D: Device + Drop>(
     }
     let mut out = output(rt)?;
     let end = run_lines_in(rt, manner, image, script, kernel, &mut out)?;
-    out.flush().map_err(|_| ScriptFault::Write)?;
+    if out.flush().is_err() {
+        return Err(RunFault::Session(ScriptFault::Write));
+    }
     came_to(end)
 }
 
@@ -177,9 +180,7 @@ fn run_call_in<W: Write, D: Device + Drop>(
 /// Whether a word of a call is `@` and a handle.
 fn is_block(word: &str) -> bool {
     match word.strip_prefix("@") {
-        Some(handle) => {
-            handle.parse::<u16>().is_ok() && handle.bytes().all(|byte| byte.is_ascii_digit())
-        }
+        Some(handle) => number(handle.as_bytes()).is_some(),
         None => false,
     }
 }

@@ -20,14 +20,24 @@ struct Traced<'i, 'o> {
     origins: Option<&'o [Origin<'o>]>,
 }
 
+/// The file of an instruction and its line, if they are known.
+fn put_line(objects: &mut JsonLines, origin: Option<&Origin<'_>>) {
+    let Some(origin) = origin else {
+        objects.null("file");
+        return objects.null("line");
+    };
+    match origin.place.file {
+        Some(file) => objects.text("file", file.as_bytes()),
+        None => objects.null("file"),
+    }
+    objects.number("line", origin.place.line)
+}
+
 impl<'i> Traced<'i, '_> {
     /// The place of an instruction, and the instruction.
     fn put_place(&self, objects: &mut JsonLines, pc: u16) -> Result<(), AllocError> {
         let origin = origin_of(self.origins, pc);
-        let place = origin.map(|origin| origin.place);
-        let file = place.and_then(|place| place.file);
-        objects.text_or_null("file", file.map(|file| file.as_bytes()));
-        objects.number_or_null("line", place.map(|place| place.line));
+        put_line(objects, origin);
         objects.text("routine", self.routine_of(pc));
         objects.number("pc", u64::from(pc));
         let mut code = Vec::new(self.alloc);

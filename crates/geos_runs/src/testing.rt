@@ -4,6 +4,8 @@ ghost use Rattle.vm_blocks.specs.Listed.{NoneLocked};
 ghost use Rattle.geos_shell.specs.Limits.{IsRegion};
 
 use crate::MOST_READ;
+use crate::bad_lines::printed_path;
+use crate::comparing::whole;
 use crate::coverage::coverage_text;
 use crate::fault::RunFault;
 use geos_cli::ScriptFault;
@@ -11,7 +13,7 @@ use geos_files::{FileFault, Locked, lock_to_read, opened};
 use geos_kernel::{Kernel, kernel_in_memory};
 use geos_scripts::NameUse;
 use geos_shell::{
-    Named, Reason, StreamFault, TestRequest, are_one_file_read, print, print_lines, read, write,
+    Reason, StreamFault, TestRequest, are_one_file_read, print, print_lines, read, write,
 };
 use script_tests::{Coverage, Part, TestScript, Tested, test_script};
 use sentence_text::Text;
@@ -99,6 +101,19 @@ struct Subject<'t, 'a> {
     coverage: Coverage,
 }
 
+impl<'t, 'a> Subject<'t, 'a> {
+    /// A script that is a whole file.
+    fn of_file(image: &'t [u8], path: &'a str, script: &'t [u8], coverage: Coverage) -> Self {
+        Subject {
+            image,
+            path,
+            script,
+            part: whole(script),
+            coverage,
+        }
+    }
+}
+
 /// Runs a test script on a kernel of whose VM file no block is locked.
 fn test_on<'a, D: Device + Drop>(
     rt: &HostRuntime,
@@ -115,8 +130,7 @@ fn test_on<'a, D: Device + Drop>(
         coverage,
     } = test;
     let alloc = rt.alloc();
-    let path = Named(path);
-    let Ok(path) = format!(in alloc; "{path}") else {
+    let Ok(path) = printed_path(alloc, path) else {
         return Err(RunFault::Session(ScriptFault::Memory));
     };
     let script = TestScript {
@@ -296,13 +310,8 @@ fn test_all<'a>(
     for path in &request.scripts {
         keep_script(rt, request.junit, *path)?;
         let script = Contents::of_script(rt, *path)?;
-        let test = Subject {
-            image,
-            path: *path,
-            script: &script.bytes,
-            part: Part::WHOLE,
-            coverage: results.coverage.take(rt.alloc()),
-        };
+        let coverage = results.coverage.take(rt.alloc());
+        let test = Subject::of_file(image, *path, &script.bytes, coverage);
         results.run(rt, test, &copied, request.region)?;
     }
     Ok(results)

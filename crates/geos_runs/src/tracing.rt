@@ -118,6 +118,11 @@ fn name_of(chunk: &Chunk) -> Name {
     }
 }
 
+/// The numbers of the steps that change the chunk.
+fn changing(alloc: Global, watch: &ChunkWatch) -> Result<Vec<u32>, AllocError> {
+    Vec::from_slice(alloc, watch.changing()?)
+}
+
 /// Runs it on a kernel of whose VM file no block is locked, and chooses the steps that change a chunk, if that is requested.
 fn run_watched<'a, D: Device + Drop>(
     alloc: Global,
@@ -140,8 +145,9 @@ fn run_watched<'a, D: Device + Drop>(
     let mut watch = ChunkWatch::new(alloc, &image, name_of(chunk), chunk.chunk, words.steps);
     match trace_call_watched(alloc, &noted, kernel, &mut watch) {
         Ok(traced) => {
-            let numbers = watch.changing().map_err(|_| ScriptFault::Memory)?;
-            let numbers = Vec::from_slice(alloc, numbers).map_err(|_| ScriptFault::Memory)?;
+            let Ok(numbers) = changing(alloc, &watch) else {
+                return Err(RunFault::Session(ScriptFault::Memory));
+            };
             chosen.limit(numbers);
             Ok(traced)
         }
