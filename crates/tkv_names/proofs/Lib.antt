@@ -1,0 +1,9 @@
+mod Letters
+mod Lists
+mod Steps
+mod Leads
+mod Bodies
+mod Holding
+mod Cases
+mod Examples
+mod Noted

@@ -1,0 +1,12 @@
+use Rattle.std.proofs.Common.{◌≡◌}
+use Rattle.tkv_names.specs.declared.seen.Known.TheVariants as known
+use Rattle.tkv_names.specs.declared.seen.Seen.{Seen}
+use Rattle.tkv_names.specs.Seen.{Leads, pushed}
+use Rattle.tkv_names.proofs.Cases.{some_map, name_leads}
+use Rattle.tkv_names.proofs.check.Check.named.Goals as goal
+
+pub returns : goal.returns
+returns c there is = some_map (λ (next : Seen). next ≡ pushed c.args.seen (known.Register c.in_ok-register.register))
+    (λ (next : Seen). Leads c.args.self.now.text.now c.args.self.now.items.now c.args.self.now.placed.now c.args.seen next)
+    (λ next e. name_leads c.args.self.now.text.now c.args.self.now.items.now c.args.self.now.placed.now c.args.seen c.args.item.now c.in_ok-register.register next there is c.in_ok-register.ensures e)
+    c.pushed.result c.pushed.ensures

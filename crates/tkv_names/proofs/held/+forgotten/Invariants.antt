@@ -1,0 +1,4 @@
+use Rattle.tkv_names.proofs.held.+forgotten.Given as goal
+
+abbrev pub decreases-forgotten : goal.decreases-forgotten
+decreases-forgotten l = l.below

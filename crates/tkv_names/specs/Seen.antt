@@ -1,0 +1,168 @@
+-- What a check of a routine knows after some items.
+use Rattle.std.specs.Prelude.{◌≡◌, ◌≢◌, ◌⊎◌, ◌<◌, ℕ, suc, ◌+◌, Bool, Option, Some, None, List, ◌++◌, length, drop, slice_get, slice_index, slice_set, bytes_eq, false}
+use Rattle.tkv_syntax.specs.declared.item.Item.{Item}
+use Rattle.tkv_syntax.specs.declared.item.ItemKind.TheVariants as kind
+use Rattle.tkv_places.specs.declared.placed.Placed.{Placed}
+use Rattle.tkv_places.specs.declared.placed.PlacedKind.TheVariants as placed_kind
+use Rattle.std.specs.Global.{Vec}
+use Rattle.geos_image.specs.declared.instr.Instr.{Instr}
+use Rattle.geos_opcodes.specs.declared.opcode.Opcode.{Opcode}
+use Rattle.geos_opcodes.specs.declared.opcode.Opcode.TheVariants as op
+use Rattle.tkv_meaning.specs.Statements.{Stmt}
+use Rattle.tkv_meaning.specs.Meaning.{Scope}
+use Rattle.tkv_meaning.specs.Written.{RoutineDoes}
+use Rattle.tkv_checks.specs.Items.{SpellsRoutine, ItemAt, no_block}
+use Rattle.tkv_names.specs.declared.seen.Known.{Known}
+use Rattle.tkv_names.specs.declared.seen.Known.TheVariants as known
+use Rattle.tkv_names.specs.declared.seen.Seen.{Seen}
+use Rattle.tkv_names.specs.Named.{Env, name_at, with_name, parameters, Says, Outputs}
+use Rattle.tkv_names.specs.Straight.{Straight, Any}
+
+-- a value is what is known of it
+abbrev pub Holds : Known → List ℕ → Option ℕ → Type 0
+Holds known.Nothing words value = Unit {0}
+Holds (known.Constant n) words value = value ≡ Some n
+Holds (known.Register r) words value = value ≡ Some (slice_index words r)
+
+-- each register that is known to have a name's word has it
+abbrev pub Agrees : List ℕ → List (Option ℕ) → Env → List ℕ → Type 0
+Agrees text held env words = (r a : ℕ) → r < 8 → slice_get held r ≡ Some (Some a) → slice_index words r ≡ env (name_at text a)
+
+-- names and values are what is known of them
+pub record Tied (text : List ℕ) (seen : Seen) (env : Env) (values words : List ℕ) : Type 0 where
+  pub size : length words ≡ 8
+  pub held : Agrees text seen.held env words
+  pub first : Holds seen.first words (slice_get values 0)
+  pub second : Holds seen.second words (slice_get values 1)
+  pub third : Holds seen.third words (slice_get values 2)
+  pub fourth : Holds seen.fourth words (slice_get values 3)
+
+-- what the placed items output from here on, the items of the source may output
+abbrev pub Sound : List ℕ → List Item → List Placed → Seen → Type 0
+Sound text items placed seen = (env : Env) (values : List ℕ) (x y : Scope) → Tied text seen env values x.words
+    → Straight (drop seen.placed placed) x y
+    → (more : List ℕ) × (y.output ≡ x.output ++ more) × Says text (drop seen.item items) env values more
+
+-- it is enough to look at what is known later
+abbrev pub Leads : List ℕ → List Item → List Placed → Seen → Seen → Type 0
+Leads text items placed seen next = Sound text items placed next → Sound text items placed seen
+
+-- no value that is known is in the register
+abbrev pub IsFree : Seen → ℕ → Type 0
+IsFree seen r = (r < 8) × (seen.first ≢ known.Register r) × (seen.second ≢ known.Register r) × (seen.third ≢ known.Register r)
+    × (seen.fourth ≢ known.Register r)
+
+-- the placed item is an instruction after which control continues
+abbrev pub IsDone : List Placed → ℕ → Instr → Type 0
+IsDone placed k instr = ItemAt placed k (λ item. (item.kind ≡ placed_kind.Do) × (item.to ≡ no_block) × (item.instr ≡ instr))
+
+-- what is known after an item that only adds a value
+abbrev pub pushed : Seen → Known → Seen
+pushed seen known = record seen { item = suc seen.item; first = known; second = seen.first; third = seen.second; fourth = seen.third }
+
+-- without the last value
+abbrev pub popped : Seen → Seen
+popped seen = record seen { first = seen.second; second = seen.third; third = seen.fourth; fourth = known.Nothing }
+
+-- after a placed instruction that sets a register
+abbrev pub written : Seen → ℕ → Seen
+written seen r = record seen { placed = suc seen.placed; held = slice_set seen.held r None }
+
+-- the placed items output what the routine of the source says that item `index` declares, whatever words it is called with
+abbrev pub MeansNamed : List ℕ → List Item → ℕ → List Placed → Type 0
+MeansNamed text items index placed = (body : Stmt) → SpellsRoutine placed body → (x y : Scope) → length x.words ≡ 8
+    → RoutineDoes Any body x y → (output : List ℕ) × (y.output ≡ x.output ++ output) × Outputs text items index x.words output
+
+-- the placed item outputs a register
+abbrev pub IsOut : List Placed → ℕ → ℕ → Type 0
+IsOut placed k r = ItemAt placed k (λ item. (item.kind ≡ placed_kind.Do) × (item.instr.opcode ≡ op.Out) × (item.instr.a ≡ r))
+
+-- a placed instruction makes one of the last two values, which are in registers
+pub record OnWords (placed : List Placed) (opcode : Opcode) (seen next : Seen) : Type 0 where
+  pub instr : Instr
+  pub done : IsDone placed seen.placed instr
+  pub is : instr.opcode ≡ opcode
+  pub left : seen.second ≡ known.Register instr.b
+  pub right : seen.first ≡ known.Register instr.c
+  pub free : IsFree (popped (popped seen)) instr.a
+  pub after : next ≡ pushed (written (popped (popped seen)) instr.a) (known.Register instr.a)
+
+-- the same of a register and a constant
+pub record OnConstant (placed : List Placed) (opcode : Opcode) (seen next : Seen) : Type 0 where
+  pub instr : Instr
+  pub done : IsDone placed seen.placed instr
+  pub is : instr.opcode ≡ opcode
+  pub left : seen.second ≡ known.Register instr.b
+  pub right : seen.first ≡ known.Constant instr.imm
+  pub free : IsFree (popped (popped seen)) instr.a
+  pub after : next ≡ pushed (written (popped (popped seen)) instr.a) (known.Register instr.a)
+
+-- later the last two values are in registers, and an instruction makes one of them
+pub record OnBoth (text : List ℕ) (items : List Item) (placed : List Placed) (opcode : Opcode) (seen next : Seen) : Type 0 where
+  pub between : Seen
+  pub same : between.item ≡ seen.item
+  pub leads : Leads text items placed seen between
+  pub words : OnWords placed opcode between next
+
+-- a register has the word of a name
+abbrev pub HasName : List ℕ → List (Option ℕ) → ℕ → ℕ → Type 0
+HasName text held at r = (a : ℕ) × (r < 8) × (slice_get held r ≡ Some (Some a)) × (name_at text a ≡ name_at text at)
+
+-- whether a register has the word of a name
+abbrev pub is_name : List ℕ → Option (Option ℕ) → ℕ → Bool
+is_name text (Some (Some a)) at = bytes_eq (name_at text a) (name_at text at)
+is_name text _ at = false
+
+-- the registers are the same, but one of them does not have the word of the name
+abbrev pub Clears : List ℕ → List (Option ℕ) → ℕ → ℕ → List (Option ℕ) → Type 0
+Clears text old at k new = (r a : ℕ) → slice_get new r ≡ Some (Some a)
+    → (slice_get old r ≡ Some (Some a)) × (r ≡ k → bytes_eq (name_at text a) (name_at text at) ≡ false)
+
+-- the registers below one do not have the word of the name, and all others have what they had
+abbrev pub Cleared : List ℕ → List (Option ℕ) → ℕ → ℕ → List (Option ℕ) → Type 0
+Cleared text old at k new = (r a : ℕ) → slice_get new r ≡ Some (Some a)
+    → (slice_get old r ≡ Some (Some a)) × (r < k → bytes_eq (name_at text a) (name_at text at) ≡ false)
+
+-- whatever names stand for, from here on a name stands for the word in a register
+abbrev pub Renames : List ℕ → List (Option ℕ) → ℕ → ℕ → List (Option ℕ) → Type 0
+Renames text old at r new = (env : Env) (words : List ℕ) → Agrees text old env words
+    → Agrees text new (with_name env (name_at text at) (slice_index words r)) words
+
+-- what is known where a routine begins
+pub record Begins (text : List ℕ) (items : List Item) (index : ℕ) (seen : Seen) : Type 0 where
+  pub head : Item
+  pub there : slice_get items index ≡ Some head
+  pub declares : head.kind ≡ kind.Fn
+  pub item : seen.item ≡ index + 2 + head.b
+  pub placed : seen.placed ≡ 1
+  pub held : (words : List ℕ) → Agrees text seen.held (parameters text items (index + 1) words head.b) words
+  pub first : seen.first ≡ known.Nothing
+  pub second : seen.second ≡ known.Nothing
+  pub third : seen.third ≡ known.Nothing
+  pub fourth : seen.fourth ≡ known.Nothing
+
+-- the item sets a name to one value
+abbrev pub IsSetting : Item → Type 0
+IsSetting item = ((item.kind ≡ kind.Let) × (item.b ≡ 1)) ⊎ ((item.kind ≡ kind.Assign) × (item.b ≡ 1))
+
+-- the item has no effect
+abbrev pub IsPassed : Item → Type 0
+IsPassed item = ((item.kind ≡ kind.Begin) × (item.a ≡ 0)) ⊎ (item.kind ≡ kind.End)
+
+-- the placed item ends the block, or leaves it
+abbrev pub IsOver : List Placed → ℕ → Type 0
+IsOver placed k = ItemAt placed k (λ item. (item.kind ≡ placed_kind.End) ⊎ (item.kind ≡ placed_kind.Leave))
+
+-- the source says an item there
+abbrev pub IsPlace : List Item → ℕ → ℕ → Type 0
+IsPlace items index at = (item : Item) × (slice_get items index ≡ Some item) × (item.at ≡ at)
+
+-- if there is an item, placed routine r outputs what the source says of the routine that it declares
+abbrev pub IfNamed : List ℕ → List Item → List (Vec Placed) → ℕ → Option ℕ → Type 0
+IfNamed text items placed r found = (index : ℕ) (one : Vec Placed) → found ≡ Some index → slice_get placed r ≡ Some one
+    → MeansNamed text items index one.items
+
+-- the same of each routine of a list
+abbrev pub AreNamed : List ℕ → List Item → List (Vec Placed) → List (Option ℕ) → Type 0
+AreNamed text items placed named = (r index : ℕ) (one : Vec Placed) → slice_get named r ≡ Some (Some index) → slice_get placed r ≡ Some one
+    → MeansNamed text items index one.items

@@ -1,0 +1,12 @@
+//! Whether placed routines do what the source says, with its names.
+#![tactic(auto)]
+
+mod check;
+mod covered;
+mod held;
+mod name;
+mod routine;
+mod seen;
+
+pub use covered::named_routines;
+pub use routine::means_named;
