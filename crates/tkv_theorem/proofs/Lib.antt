@@ -1,2 +1,3 @@
 mod Chained
 mod Computed
+mod Named

@@ -3,6 +3,7 @@
 #![tactic(auto)]
 
 ghost use Rattle.tkv_theorem.specs.Expressions.{ExpressionsAreComputed};
+ghost use Rattle.tkv_theorem.specs.Named.{CoveredRunsAsNamed};
 ghost use Rattle.tkv_theorem.specs.Theorem.{CompiledRunsAsWritten, HonestDriftsStay};
 
 use vm_file::Device;
@@ -17,4 +18,9 @@ pub fn compiled_runs_as_written<D: Device>()
 /// Instructions on words leave the values of expressions, if they compute these (`Computes`).
 pub fn expressions_are_computed()
     ensures { ExpressionsAreComputed }
+{}
+
+/// On any device: a run of a compiled source outputs what the source says with its names, if `tkv_names::means_named` covers the routine.
+pub fn covered_runs_as_named<D: Device>()
+    ensures { CoveredRunsAsNamed D.medium }
 {}
