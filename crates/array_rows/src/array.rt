@@ -80,7 +80,7 @@ pub fn rows_of(
     }
 }
 
-/// The bytes of an array whose elements are made of rows of CSV, in place of those of an array of these bytes.
+/// The bytes of an array whose elements are made of rows of CSV or of a JSON object, in place of those of an array of these bytes.
 pub fn with_rows(
     alloc: Global,
     bytes: &[u8],
@@ -89,7 +89,12 @@ pub fn with_rows(
 ) -> Result<Vec<u8>, ArrayFault> {
     let array = Array::of(alloc, bytes, fields)?;
     let mut new = NewElements::new(alloc, array.elements.size);
-    new.put_rows(alloc, rows, &array.fields);
+    // No row of CSV begins so: a quote is the first byte of a field.
+    if rows.starts_with(b"{\"") {
+        new.put_object(alloc, rows, &array.fields);
+    } else {
+        new.put_rows(alloc, rows, &array.fields);
+    }
     if let Some((row, fault)) = new.fault {
         return Err(ArrayFault::Row(row, fault));
     }

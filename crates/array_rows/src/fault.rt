@@ -19,6 +19,10 @@ pub enum RowFault {
     Hex(usize),
     /// It has so many bytes, and not as many as an element.
     Size(usize, usize),
+    /// A field of a JSON object is no string.
+    String(usize),
+    /// A JSON object, or one of its rows, has another form.
+    Object,
 }
 
 /// Words, and perhaps a number after them.
@@ -91,6 +95,10 @@ impl RowFault {
                 ("bytes: ", found),
                 (", and an element has ", size),
                 "",
+            ),
+            RowFault::String(field) => one("field ", field, " is no string"),
+            RowFault::Object => words(
+                "the object is {\"kind\":\"array\",\"rows\":[[..],..]}, as 'geos get --array --json' prints it",
             ),
         }
     }

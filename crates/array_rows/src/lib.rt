@@ -1,10 +1,11 @@
-//! The elements of an array, in the bytes of a chunk, as rows of CSV or of a JSON object; and rows of CSV as elements.
+//! The elements of an array, in the bytes of a chunk, as rows of CSV or of a JSON object; and such rows as elements.
 #![tactic(auto)]
 
 mod array;
 mod elements;
 mod escapes;
 mod fault;
+mod json_rows;
 mod new_elements;
 mod printed;
 mod row;

@@ -13,13 +13,13 @@ use std::alloc::{AllocError, Global};
 #[derive(Drop)]
 pub(crate) struct NewElements {
     /// The bytes of all elements.
-    bytes: Text,
+    pub(crate) bytes: Text,
     /// How many bytes end with each.
     ends: Vec<usize>,
     /// The size of each element, 0 if sizes vary.
     size: usize,
     /// The number of the last row that was read, counted from 1.
-    row: usize,
+    pub(crate) row: usize,
     /// The number of the first row that is wrong, and what is wrong with it.
     pub(crate) fault: Option<(usize, RowFault)>,
 }
@@ -37,7 +37,7 @@ impl NewElements {
     }
 
     /// Notes what is wrong with a row.
-    fn fail(&mut self, fault: RowFault) {
+    pub(crate) fn fail(&mut self, fault: RowFault) {
         if self.fault.is_none() {
             self.fault = Some((self.row, fault));
         }
@@ -114,7 +114,7 @@ impl NewElements {
     }
 
     /// Appends the element of a row.
-    fn put_row(&mut self, row: &Row, fields: &[Field]) {
+    pub(crate) fn put_row(&mut self, row: &Row, fields: &[Field]) {
         let count = fields.len().max(1);
         if row.is_wrong() {
             self.fail(RowFault::Quotes)

@@ -1,4 +1,4 @@
-//! The fields of a row of CSV.
+//! The fields of a row.
 
 use sentence_text::Text;
 use std::alloc::Global;
@@ -75,6 +75,18 @@ impl Row {
         let done = self.ends.push(self.fields.bytes.len());
         self.fields.failed = self.fields.failed || done.is_err();
         Place::First
+    }
+
+    /// Appends a field with these bytes.
+    pub(crate) fn put_field(&mut self, bytes: &[u8]) {
+        self.fields.put_bytes(bytes);
+        self.end_field();
+    }
+
+    /// Appends a field with the digits of a number.
+    pub(crate) fn put_number(&mut self, number: u64) {
+        self.fields.put_number("", number);
+        self.end_field();
     }
 
     /// Whether its quotes are wrong.
