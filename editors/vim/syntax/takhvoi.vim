@@ -3,6 +3,7 @@ if exists("b:current_syntax")
   finish
 endif
 syntax keyword tkvDeclaration pub inline fn const struct use let
+syntax match tkvDeclaration /^test\>\ze\s*"/
 syntax keyword tkvStatement if else while loop for in step max try as out dirty assert
 syntax keyword tkvLeave fail return break continue
 syntax keyword tkvWhy why same differ
