@@ -44,5 +44,10 @@ pub fn field_of(word: &str) -> Option<Field> {
 
 /// Whether a word names fields, with a comma between them.
 pub(crate) fn are_fields(word: &str) -> bool {
-    word.split(',').all(|field| field_of(field).is_some())
+    for field in word.split(',') {
+        if field_of(field).is_none() {
+            return false;
+        }
+    }
+    true
 }
