@@ -39,7 +39,7 @@ fn without_tip(text: &str) -> (&str, &str) {
 
 impl Answer {
     /// What `clap` says of the words.
-    fn of(alloc: Global, error: &Error) -> Answer {
+    pub(crate) fn of(alloc: Global, error: &Error) -> Answer {
         if error.kind() == ErrorKind::OutOfMemory {
             return Answer::Memory;
         }
@@ -103,13 +103,20 @@ fn printable(alloc: Global, words: &[String]) -> Result<Vec<String>, AllocError>
 }
 
 /// What words are answered in which `clap` finds no request: what it finds in them when their control characters are written by their
-/// bytes, so that none of these gets into a line of what it says.
-pub(crate) fn answer_to(alloc: Global, words: &[String], error: &Error) -> Answer {
+/// bytes, so that none of these gets into a line of what it says. If it finds nothing wrong then, the answer is what it says of the words.
+pub(crate) fn answer_to(alloc: Global, words: &[String], said: Answer) -> Answer {
     match printable(alloc, words) {
-        Ok(shown) => match matches_of(alloc, &shown) {
-            Ok(_) => Answer::of(alloc, error),
-            Err(error) => Answer::of(alloc, &error),
-        },
+        Ok(shown) => said_of(alloc, &shown, said),
         Err(AllocError) => Answer::Memory,
+    }
+}
+
+/// What is wrong with the words, or what was said, if nothing is.
+fn said_of(alloc: Global, words: &[String], said: Answer) -> Answer {
+    let mut is_whole = true;
+    match matches_of(alloc, words, &mut is_whole) {
+        Ok(_) if is_whole => said,
+        Ok(_) => Answer::Memory,
+        Err(answer) => answer,
     }
 }

@@ -3,7 +3,7 @@
 use crate::answer::Answer;
 use crate::commands::{COMMANDS, END, PROGRAM};
 use crate::help::USAGES;
-use clap::{Arg, ArgAction, ArgMatches, Command, Error};
+use clap::{Arg, ArgAction, ArgMatches, Command};
 use std::alloc::{AllocError, Global};
 use std::{env, io};
 
@@ -51,44 +51,74 @@ fn option_of<'a>(arg: Arg<'a>, kind: char, value: &'a str) -> Arg<'a> {
     }
 }
 
+/// A command with one more argument. No list of arguments is made: a proof that one may be dropped takes long.
+fn with_arg<'a>(
+    alloc: Global,
+    command: Result<Command<'a>, AllocError>,
+    line: &'a str,
+) -> Result<Command<'a>, AllocError> {
+    match command {
+        Ok(command) => command.arg(arg_of(alloc, line)),
+        Err(AllocError) => Err(AllocError),
+    }
+}
+
+/// The command of a text of `commands`, without its arguments.
+fn bare_command<'a>(alloc: Global, first: &'a str, note: &'a str) -> Command<'a> {
+    let (name, about) = parts_of(first, ' ');
+    Command::new(alloc, name).about(about).after_help(note)
+}
+
 /// The command of a text of `commands`.
 fn command_of<'a>(alloc: Global, text: &'a str) -> Result<Command<'a>, AllocError> {
     let (lines, note) = text.split_once("\n\n").unwrap_or((text, ""));
     let (first, args) = parts_of(lines, '\n');
-    let (name, about) = parts_of(first, ' ');
-    let mut list = Vec::new(alloc);
+    let mut command = Ok(bare_command(alloc, first, note));
     for line in args.lines() {
-        list.push(arg_of(alloc, line))?;
+        command = with_arg(alloc, command, line);
     }
-    Command::new(alloc, name)
-        .about(about)
-        .after_help(note)
-        .args(list)
+    command
 }
 
 /// The program without its commands.
 fn bare_program<'a>(alloc: Global) -> Result<Command<'a>, AllocError> {
-    command_of(alloc, PROGRAM)?
-        .no_binary_name(true)
-        .version("0.1.0")
-        .override_usage(USAGES)
-        .bin_name("geos")
+    match command_of(alloc, PROGRAM) {
+        Ok(program) => program
+            .no_binary_name(true)
+            .version("0.1.0")
+            .override_usage(USAGES)
+            .bin_name("geos"),
+        Err(AllocError) => Err(AllocError),
+    }
 }
 
-/// The program with its commands. If an allocation is refused, `is_whole` may become false, and then commands are missing. So no command is
+/// The program with one more command. If an allocation is refused, `is_whole` becomes false, and the command is missing. So no command is
 /// dropped: a proof that one may be dropped takes twenty seconds.
-fn program<'a>(alloc: Global, is_whole: &mut bool) -> Result<Command<'a>, AllocError> {
-    let mut program = bare_program(alloc)?;
-    for text in COMMANDS.split(END) {
-        program = match command_of(alloc, text) {
-            Ok(command) => program.subcommand(command)?,
+fn with_command<'a>(
+    alloc: Global,
+    program: Result<Command<'a>, AllocError>,
+    text: &'a str,
+    is_whole: &mut bool,
+) -> Result<Command<'a>, AllocError> {
+    match program {
+        Ok(program) => match command_of(alloc, text) {
+            Ok(command) => program.subcommand(command),
             Err(AllocError) => {
                 *is_whole = false;
-                program
+                Ok(program)
             }
-        };
+        },
+        Err(AllocError) => Err(AllocError),
     }
-    Ok(program)
+}
+
+/// The program with its commands, or with some of them.
+fn program<'a>(alloc: Global, is_whole: &mut bool) -> Result<Command<'a>, AllocError> {
+    let mut program = bare_program(alloc);
+    for text in COMMANDS.split(END) {
+        program = with_command(alloc, program, text, is_whole);
+    }
+    program
 }
 
 /// The words after the program's name. An error is what they are answered where one of them is no text.
@@ -103,16 +133,19 @@ pub fn words(rt: &HostRuntime) -> Result<Vec<String>, Answer> {
     }
 }
 
-/// What `clap` finds in the words after the program's name.
-pub(crate) fn matches_of<'a>(alloc: Global, words: &'a [String]) -> Result<ArgMatches<'a>, Error> {
-    let mut is_whole = true;
-    let found = match program(alloc, &mut is_whole) {
-        Ok(program) => program.try_get_matches_from(words),
-        Err(error) => Err(Error::from(error)),
-    };
-    if is_whole {
-        found
-    } else {
-        Err(Error::from(AllocError))
+/// What `clap` finds in the words after the program's name, or what it says of them. If an allocation is refused, `is_whole` may become
+/// false, and then what it finds does not count.
+pub(crate) fn matches_of<'a>(
+    alloc: Global,
+    words: &'a [String],
+    is_whole: &mut bool,
+) -> Result<ArgMatches<'a>, Answer> {
+    match program(alloc, is_whole) {
+        Ok(program) => match program.try_get_matches_from(words) {
+            Ok(matches) => Ok(matches),
+            Err(error) if *is_whole => Err(Answer::of(alloc, &error)),
+            Err(_) => Err(Answer::Memory),
+        },
+        Err(AllocError) => Err(Answer::Memory),
     }
 }

@@ -1,11 +1,10 @@
 //! The request of a `copy`.
 
 ghost use Rattle.std.specs.Prelude.{IfSome};
-ghost use Rattle.geos_shell.specs.Limits.{IsArea, KeepsLimits};
+ghost use Rattle.geos_shell.specs.Limits.{IsArea};
 
 use crate::given::Given;
 use crate::numbers::AREA;
-use crate::request::{FileRequest, Request};
 
 /// To copy a VM file to a new one.
 #[derive(Clone, Copy)]
@@ -31,13 +30,13 @@ fn area_of(given: &Given<'_, '_>) -> Option<u32>
 }
 
 /// The request of a `copy`.
-pub(crate) fn copy_of<'a>(given: &Given<'_, 'a>) -> Request<'a>
-    ensures { KeepsLimits result }
+pub(crate) fn copy_of<'a>(given: &Given<'_, 'a>) -> CopyRequest<'a>
+    ensures { IfSome result.area IsArea }
 {
-    Request::File(FileRequest::Copy(CopyRequest {
+    CopyRequest {
         area: area_of(given),
         file: given.word("FILE"),
         new: given.word("NEW"),
         saved: given.flag("saved"),
-    }))
+    }
 }

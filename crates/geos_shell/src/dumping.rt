@@ -1,9 +1,6 @@
 //! The request of a `dump`.
 
-ghost use Rattle.geos_shell.specs.Limits.{KeepsLimits};
-
 use crate::given::Given;
-use crate::request::{FileRequest, Request};
 
 /// The columns of a line of sixteen bytes.
 const COLUMNS_OF_BYTES: u32 = 67;
@@ -27,10 +24,8 @@ pub struct DumpRequest<'a> {
 }
 
 /// The request of a `dump`.
-pub(crate) fn dump_of<'a>(given: &Given<'_, 'a>) -> Request<'a>
-    ensures { KeepsLimits result }
-{
-    Request::File(FileRequest::Dump(DumpRequest {
+pub(crate) fn dump_of<'a>(given: &Given<'_, 'a>) -> DumpRequest<'a> {
+    DumpRequest {
         file: given.word("FILE"),
         chunks: given.flag("chunks"),
         short: matches!(given.columns, Some(columns) if columns < COLUMNS_OF_BYTES),
@@ -38,5 +33,5 @@ pub(crate) fn dump_of<'a>(given: &Given<'_, 'a>) -> Request<'a>
         saved: given.flag("saved"),
         block: given.short_if_any("H"),
         chunk: given.short_if_any("C"),
-    }))
+    }
 }

@@ -4,8 +4,8 @@ use crate::given::Given;
 use crate::kept::may_be_saved;
 use crate::one_file::are_one_file;
 use crate::output::{FAULTS, written_name};
-use crate::request::{FileRequest, Request, RoutineRequest, TextRequest};
 use crate::streams::{STANDARD, name_of};
+use crate::texts::new_text_of;
 
 /// The arguments that are paths: after `<` of what is read, where `-` is the standard input, after `>` of what is written, where `-` is the
 /// standard output, and after `=` of VM files.
@@ -46,40 +46,41 @@ fn is_in_word(rt: &HostRuntime, word: &str) -> bool {
     }
 }
 
-/// Whether it goes into a stream that the request reads or writes though no word is `-`.
-fn are_in_stream(rt: &HostRuntime, request: &Request<'_>) -> bool {
-    match request {
-        Request::Routines(RoutineRequest::Session) | Request::Shell(_) => are_in_read(rt, STANDARD),
-        Request::Routines(RoutineRequest::Call { call, .. }) => {
-            call.is_none() && are_in_read(rt, STANDARD)
-        }
-        Request::File(FileRequest::Put(put)) => match put.array {
-            Some(rows) => are_in_read(rt, rows.path),
-            None => are_in_read(rt, STANDARD),
-        },
-        Request::Text(TextRequest::Budget(made) | TextRequest::Format(made)) => {
-            are_in_kept(rt, made.new)
-        }
+/// Whether it goes into a stream that the command reads or writes though no word is `-`.
+fn are_in_stream(rt: &HostRuntime, given: &Given<'_, '_>, command: &str) -> bool {
+    match command {
+        "" | "shell" => are_in_read(rt, STANDARD),
+        "call" => given.setting("NAME").is_none() && are_in_read(rt, STANDARD),
+        "put" => are_in_read(rt, given.setting("array").unwrap_or(STANDARD)),
+        "budget" | "fmt" => are_in_kept(rt, new_text_of(given).new),
         _ => false,
     }
 }
 
-/// Whether standard error goes into a file that the request, which is made of these words, reads or works on, or into a VM file or an
-/// image that it is to write: a message would become part of the file.
-pub(crate) fn has_faults(rt: &HostRuntime, given: &Given<'_, '_>, request: &Request<'_>) -> bool {
-    for argument in PATHS.split(' ') {
-        let mut name = argument.chars();
-        let kind = name.next();
-        for path in given.matches.get_strs(name.as_str()).unwrap_or(&[]) {
-            let has_faults = match kind {
-                Some('<') => are_in_read(rt, path),
-                Some('>') => are_in_kept(rt, path),
-                _ => are_in(rt, path),
-            };
-            if has_faults {
-                return true;
-            }
+/// Whether the argument, one of `PATHS`, has a path of a file that standard error goes into.
+fn are_in_argument(rt: &HostRuntime, given: &Given<'_, '_>, argument: &str) -> bool {
+    let mut name = argument.chars();
+    let kind = name.next().unwrap_or('=');
+    for path in given.words(name.as_str()) {
+        let has_faults = match kind {
+            '<' => are_in_read(rt, path),
+            '>' => are_in_kept(rt, path),
+            _ => are_in(rt, path),
+        };
+        if has_faults {
+            return true;
         }
     }
-    are_in_stream(rt, request)
+    false
+}
+
+/// Whether standard error goes into a file that the command with these words reads or works on, or into a VM file or an image that it is
+/// to write: a message would become part of the file.
+pub(crate) fn has_faults(rt: &HostRuntime, given: &Given<'_, '_>, command: &str) -> bool {
+    for argument in PATHS.split(' ') {
+        if are_in_argument(rt, given, argument) {
+            return true;
+        }
+    }
+    are_in_stream(rt, given, command)
 }

@@ -9,50 +9,91 @@ use clap::ArgMatches;
 use clap::parser::ValueSource;
 use std::alloc::{AllocError, Global};
 
+/// What a command has under one of its names.
+#[derive(Clone, Copy)]
+pub(crate) struct Entry<'m, 'a> {
+    name: &'a str,
+    /// The words, or the default.
+    words: &'m [&'a str],
+    /// Whether words are given, and not only a default.
+    is_given: bool,
+}
+
+impl<'m, 'a> Entry<'m, 'a> {
+    fn new(name: &'a str, words: &'m [&'a str], source: Option<ValueSource>) -> Entry<'m, 'a> {
+        let is_given = matches!(source, Some(ValueSource::CommandLine));
+        Entry {
+            name,
+            words,
+            is_given,
+        }
+    }
+}
+
+/// What `clap` found for a command. `ArgMatches` has many parts, and a proof about each of its readers would be longer.
+pub(crate) fn entries_of<'m, 'a>(
+    alloc: Global,
+    matches: &'m ArgMatches<'a>,
+) -> Result<Vec<Entry<'m, 'a>>, AllocError> {
+    let mut entries = Vec::new(alloc);
+    for name in matches.ids() {
+        if let Some(words) = matches.get_strs(name) {
+            let source = matches.value_source(name);
+            entries.push(Entry::new(name, words, source))?;
+        }
+    }
+    Ok(entries)
+}
+
 /// The words after a command's name. A command has nothing under a name that is none of its arguments.
 #[derive(Clone, Copy)]
 pub(crate) struct Given<'m, 'a> {
-    pub(crate) matches: &'m ArgMatches<'a>,
+    pub(crate) entries: &'m [Entry<'m, 'a>],
     /// The columns of the terminal that standard output is, if they are known.
     pub(crate) columns: Option<u32>,
 }
 
-impl<'a> Given<'_, 'a> {
+impl<'m, 'a> Given<'m, 'a> {
     /// Whether words are given under the name, and not only a default.
     pub(crate) fn has(&self, name: &str) -> bool {
-        matches!(
-            self.matches.value_source(name),
-            Some(ValueSource::CommandLine)
-        )
+        for entry in self.entries {
+            if entry.name == name {
+                return entry.is_given;
+            }
+        }
+        false
     }
 
-    /// A word that the command requires, so it exists.
-    pub(crate) fn word(&self, name: &str) -> &'a str {
-        self.matches.get_str(name).unwrap_or("")
+    /// The words under the name, or its default.
+    pub(crate) fn words(&self, name: &str) -> &'m [&'a str] {
+        for entry in self.entries {
+            if entry.name == name {
+                return entry.words;
+            }
+        }
+        &[]
     }
 
     /// A word that the command may be given.
     pub(crate) fn setting(&self, name: &str) -> Option<&'a str> {
-        self.matches.get_str(name)
+        self.words(name).first().copied()
     }
 
+    /// A word that the command requires, so it exists.
+    pub(crate) fn word(&self, name: &str) -> &'a str {
+        self.setting(name).unwrap_or("")
+    }
+
+    /// Whether a flag is given: `clap` has the word `true` for one that is.
     pub(crate) fn flag(&self, name: &str) -> bool {
-        self.matches.get_flag(name)
-    }
-
-    /// The words that are given for a name, if there are any.
-    pub(crate) fn words(&self, alloc: Global, name: &str) -> Result<Vec<&'a str>, AllocError> {
-        match self.matches.get_strs(name) {
-            Some(given) => Vec::from_slice(alloc, given),
-            None => Ok(Vec::new(alloc)),
-        }
+        self.word(name) == "true"
     }
 
     /// How many of the words that are given for these names, with `+` between them, are the standard input.
     pub(crate) fn streams(&self, names: &str) -> usize {
         let mut count: usize = 0;
         for name in names.split('+') {
-            for word in self.matches.get_strs(name).unwrap_or(&[]) {
+            for word in self.words(name) {
                 if is_stream(word) {
                     count = count.saturating_add(1);
                 }

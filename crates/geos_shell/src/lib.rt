@@ -5,6 +5,7 @@
 #![tactic(auto)]
 
 mod answer;
+mod asking;
 mod colours;
 mod command_line;
 mod commands;
@@ -31,14 +32,18 @@ mod reason;
 mod replace;
 mod reported;
 mod request;
+mod routines;
 mod row_fields;
 mod rules;
 mod run_limits;
 mod step_choice;
 mod streams;
+mod texts;
+mod vm_files;
 mod wrapping;
 
 pub use answer::Answer;
+pub use asking::requested;
 pub use command_line::words;
 pub use copying::CopyRequest;
 pub use descriptors::keep_stream_numbers;
@@ -57,7 +62,7 @@ pub use reason::Reason;
 pub use reported::{Diagnosed, Reported, done_or_reported, report};
 pub use request::{
     Asked, CallWords, ChunkPath, FileRequest, GetRequest, NewText, PagePaths, PutRequest, Reports,
-    Request, RoutineRequest, Rows, TestRequest, TextRequest, TraceWords, requested,
+    Request, RoutineRequest, Rows, TestRequest, TextRequest, TraceWords,
 };
 pub use row_fields::{Field, field_of};
 pub use run_limits::{Room, RunLimits};

@@ -133,8 +133,12 @@ fn has_form(name: &str, word: &str) -> bool {
 
 /// Whether one of the words under the name has not their form.
 fn has_malformed(given: &Given<'_, '_>, name: &str) -> bool {
-    let words = given.matches.get_strs(name).unwrap_or(&[]);
-    words.iter().any(|word| !has_form(name, word))
+    for word in given.words(name) {
+        if !has_form(name, word) {
+            return true;
+        }
+    }
+    false
 }
 
 /// Whether a condition of a rule is met, apart from a `!` before it.

@@ -163,25 +163,41 @@ pub struct StepChoice<'a> {
     pub chunk: Option<Chunk>,
 }
 
+/// The lines that words name.
+fn lines_in<'a>(alloc: Global, words: &[&'a str]) -> Result<Vec<Line<'a>>, AllocError> {
+    let mut lines = Vec::new(alloc);
+    for word in words {
+        if let Some(line) = Line::of(word) {
+            lines.push(line)?;
+        }
+    }
+    Ok(lines)
+}
+
+/// The conditions that words are.
+fn conditions_in(alloc: Global, words: &[&str]) -> Result<Vec<Condition>, AllocError> {
+    let mut conditions = Vec::new(alloc);
+    for word in words {
+        if let Some(condition) = Condition::of(word) {
+            conditions.push(condition)?;
+        }
+    }
+    Ok(conditions)
+}
+
 impl<'a> StepChoice<'a> {
     /// The requested choice.
     pub(crate) fn of(alloc: Global, given: &Given<'_, 'a>) -> Result<StepChoice<'a>, AllocError> {
-        let mut lines = Vec::new(alloc);
-        for word in given.matches.get_strs("break").unwrap_or(&[]) {
-            if let Some(line) = Line::of(word) {
-                lines.push(line)?;
-            }
-        }
-        let mut conditions = Vec::new(alloc);
-        for word in given.matches.get_strs("when").unwrap_or(&[]) {
-            if let Some(condition) = Condition::of(word) {
-                conditions.push(condition)?;
-            }
-        }
+        let chunk = match given.setting("watch") {
+            Some(word) => Chunk::of(word),
+            None => None,
+        };
+        let lines = lines_in(alloc, given.words("break"))?;
+        let conditions = conditions_in(alloc, given.words("when"))?;
         Ok(StepChoice {
             lines,
             conditions,
-            chunk: given.setting("watch").and_then(Chunk::of),
+            chunk,
         })
     }
 
