@@ -1,3 +1,2 @@
 mod Chained
-mod Computed
 mod Named

@@ -2,7 +2,6 @@
 //! and there is no code.
 #![tactic(auto)]
 
-ghost use Rattle.tkv_theorem.specs.Expressions.{ExpressionsAreComputed};
 ghost use Rattle.tkv_theorem.specs.Named.{CoveredRunsAsNamed};
 ghost use Rattle.tkv_theorem.specs.Theorem.{CompiledRunsAsWritten, HonestDriftsStay};
 
@@ -13,11 +12,6 @@ use vm_file::Device;
 pub fn compiled_runs_as_written<D: Device>()
     ensures written { CompiledRunsAsWritten D.medium }
     ensures honest { HonestDriftsStay D.medium }
-{}
-
-/// Instructions on words leave the values of expressions, if they compute these (`Computes`).
-pub fn expressions_are_computed()
-    ensures { ExpressionsAreComputed }
 {}
 
 /// On any device: a run of a compiled source outputs what the source says with its names, if `tkv_names::means_named` covers the routine.
