@@ -1,6 +1,6 @@
 -- What each item of a source leads to.
 use Rattle.std.proofs.Common.{◌≡◌, ℕ, suc, ◌+◌, ◌-◌, ◌*◌, ◌/◌, ◌%◌, ◌^◌, Option, Some, None, List, [], refl, sym, ap, ◌∙◌, subst, inl, inr, ◌++◌}
-use Rattle.std.specs.Prelude.{IfSome, bit_and, drop, slice_get, slice_index}
+use Rattle.std.specs.Prelude.{IfSome, drop, slice_get, slice_index}
 use Rattle.geos_image.specs.declared.instr.Instr.{Instr}
 use Rattle.geos_opcodes.specs.declared.opcode.Opcode.{Opcode}
 use Rattle.geos_opcodes.specs.declared.opcode.Opcode.TheVariants as op
@@ -13,9 +13,10 @@ use Rattle.tkv_names.specs.declared.seen.Known.TheVariants as known
 use Rattle.tkv_names.specs.declared.seen.Seen.{Seen}
 use Rattle.tkv_names.specs.Named.{Env, name_at, joined, parameters, Joins, Sets, DoesItem, Says}
 use Rattle.tkv_names.specs.Straight.{IsStraight, Straight}
-use Rattle.tkv_names.specs.Seen.{Holds, Sound, Leads, IsFree, IsDone, IsOut, IsOver, OnWords, OnConstant, OnBoth, HasName, Renames, IsSetting, IsPassed, Begins, MeansNamed, pushed, popped, written}
-use Rattle.tkv_names.proofs.Steps.{Gives, gives_ldi, gives_mov, gives_add, gives_sub, gives_muli, gives_and, gives_shr}
-use Rattle.tkv_names.proofs.Leads.{constant_is, register_is, moved, moved_second, joins, number, name, passes, sets, puts, ends}
+use Rattle.tkv_names.specs.Seen.{Holds, Sound, Leads, IsFree, IsDone, IsOut, IsOver, OnWords, OnBoth, Immediate, IsBeside, IsFolded, HasName, Renames, IsSetting, IsPassed, Begins, MeansNamed, pushed, popped, written}
+use Rattle.tkv_names.proofs.Steps.{Gives, gives_ldi, gives_mov, gives_add, gives_sub}
+use Rattle.tkv_names.proofs.Constants.{immediate_gives, immediate_does, turned, folded_does, folded_is}
+use Rattle.tkv_names.proofs.Leads.{constant_is, register_is, moved, moved_second, joins, folds, number, name, passes, sets, puts, ends}
 use Rattle.tkv_names.proofs.Bodies.{straight_does}
 
 pub some_map : {A : Type 0} (one other : A → Type 0) → ((x : A) → one x → other x) → (o : Option A) → IfSome o one → IfSome o other
@@ -69,22 +70,6 @@ module _ (text : List ℕ) (items : List Item) (placed : List Placed) (seen : Se
       both : two ≡ popped (popped seen)
       both = f ∙ ap popped e
 
-  pub on_constant : (opcode : Opcode) (one two bare : Seen) (i : Instr) (l r : ℕ) → IsDone placed seen.placed i → i.opcode ≡ opcode → i.b ≡ l → i.imm ≡ r
-      → seen.second ≡ known.Register l → seen.first ≡ known.Constant r → one ≡ popped seen → two ≡ popped one
-      → IsFree two i.a × (bare ≡ written two i.a) → (next : Seen) → next ≡ pushed bare (known.Register i.a) → OnConstant placed opcode seen next
-  on_constant opcode one two bare i l r done is b c second first e f (free, g) next h = record {
-    instr = i;
-    done = done;
-    is = is;
-    left = second ∙ ap (λ (q : ℕ). known.Register q) (sym b);
-    right = first ∙ ap (λ (q : ℕ). known.Constant q) (sym c);
-    free = subst (λ (s : Seen). IsFree s i.a) both free;
-    after = h ∙ ap (λ (s : Seen). pushed s (known.Register i.a)) (g ∙ ap (λ (s : Seen). written s i.a) both);
-  }
-    where
-      both : two ≡ popped (popped seen)
-      both = f ∙ ap popped e
-
   -- the meaning of an item by its kind
   abbrev Means : ItemKind → Type 0
   Means o = (p : ℕ) (item : Item) (env : Env) (vs more : List ℕ) → Joins o (Says text (drop p items)) env vs more
@@ -106,17 +91,51 @@ module _ (text : List ℕ) (items : List Item) (placed : List Placed) (seen : Se
       words : OnWords placed opcode both.between next
       words = both.words
 
-  constant_leads : (o : ItemKind) (opcode : Opcode) (f : Instr → List ℕ → ℕ) → ((i : Instr) → i.opcode ≡ opcode → Gives i (f i))
-      → ((i : Instr) (ws : List ℕ) → f i ws ≡ joined o (slice_index ws i.b) i.imm) → Means o
-      → (item : Item) (next : Seen) → slice_get items seen.item ≡ Some item → item.kind ≡ o → OnConstant placed opcode seen next
-      → Leads text items placed seen next
-  constant_leads o opcode f gives same means item next there is one sound =
-      subst (λ (s : Seen). Leads text items placed seen s) (sym one.after)
-      (joins text items placed seen item o one.instr (f one.instr) (λ ws. slice_index ws one.instr.b) (λ ws. one.instr.imm) there
-      (λ env vs more h. subst (λ (k : ItemKind). DoesItem text item k (Says text (drop (suc seen.item) items)) env vs more) (sym is)
-      (means (suc seen.item) item env vs more h))
-      one.done (gives one.instr one.is) one.free (register_is seen.second one.instr.b one.left)
-      (constant_is seen.first one.instr.imm one.right) (same one.instr)) sound
+  -- after an instruction with a number, of which `immediate` says that it does the operation
+  pub immediate_leads : (item : Item) (i : Instr) (r n : ℕ) (opcode : Opcode) (imm : ℕ) → slice_get items seen.item ≡ Some item
+      → IsBeside item.kind seen r n → Immediate item.kind n opcode imm → IsDone placed seen.placed i → i.opcode ≡ opcode → i.b ≡ r → i.imm ≡ imm
+      → (one two bare : Seen) → one ≡ popped seen → two ≡ popped one → IsFree two i.a × (bare ≡ written two i.a)
+      → (next : Seen) → next ≡ pushed bare (known.Register i.a) → Leads text items placed seen next
+  immediate_leads item i r n opcode imm there beside by_number done is b m one two bare e f (free, g) next h =
+      subst (λ (s : Seen). Leads text items placed seen s) (sym after) (by beside)
+    where
+      both : two ≡ popped (popped seen)
+      both = f ∙ ap popped e
+
+      after : next ≡ pushed (written (popped (popped seen)) i.a) (known.Register i.a)
+      after = h ∙ ap (λ (s : Seen). pushed s (known.Register i.a)) (g ∙ ap (λ (s : Seen). written s i.a) both)
+
+      its : Immediate item.kind n i.opcode i.imm
+      its = subst (λ (p : Opcode). Immediate item.kind n p i.imm) (sym is) (subst (λ (k : ℕ). Immediate item.kind n opcode k) (sym m) by_number)
+
+      gives : Gives i (λ ws. joined item.kind (slice_index ws i.b) n)
+      gives = immediate_gives item.kind n i its
+
+      word : (k : Known) → k ≡ known.Register r → (ws : List ℕ) (o : Option ℕ) → Holds k ws o → o ≡ Some (slice_index ws i.b)
+      word k q ws o holds = register_is k r q ws o holds ∙ ap (λ (j : ℕ). Some (slice_index ws j)) (sym b)
+
+      does : (env : Env) (vs more : List ℕ) → Joins item.kind (Says text (drop (suc seen.item) items)) env vs more
+          → DoesItem text item item.kind (Says text (drop (suc seen.item) items)) env vs more
+      does env vs more = immediate_does text items item.kind n i.opcode i.imm its (suc seen.item) item env vs more
+
+      by : IsBeside item.kind seen r n → Leads text items placed seen (pushed (written (popped (popped seen)) i.a) (known.Register i.a))
+      by (inl (left, right)) = joins text items placed seen item item.kind i (λ ws. joined item.kind (slice_index ws i.b) n)
+          (λ ws. slice_index ws i.b) (λ ws. n) there does done gives (subst (λ (s : Seen). IsFree s i.a) both free)
+          (word seen.second left) (constant_is seen.first n right) (λ ws. refl)
+      by (inr (commutes, left, right)) = joins text items placed seen item item.kind i (λ ws. joined item.kind (slice_index ws i.b) n)
+          (λ ws. n) (λ ws. slice_index ws i.b) there does done gives (subst (λ (s : Seen). IsFree s i.a) both free)
+          (constant_is seen.second n left) (word seen.first right) (λ ws. turned item.kind commutes (slice_index ws i.b) n)
+
+  pub fold_leads : (item : Item) (a b word : ℕ) (one two : Seen) → slice_get items seen.item ≡ Some item → IsFolded item.kind a b word
+      → seen.second ≡ known.Constant a → seen.first ≡ known.Constant b → one ≡ popped seen → two ≡ popped one
+      → (next : Seen) → next ≡ pushed two (known.Constant word) → Leads text items placed seen next
+  fold_leads item a b word one two there is left right e f next h = subst (λ (s : Seen). Leads text items placed seen s) (sym after)
+      (folds text items placed seen item item.kind a b there (λ env vs more. folded_does text items item.kind a b word is (suc seen.item) item env vs more)
+      left right)
+    where
+      after : next ≡ pushed (popped (popped seen)) (known.Constant (joined item.kind a b))
+      after = h ∙ (ap (λ (s : Seen). pushed s (known.Constant word)) (f ∙ ap popped e)
+          ∙ ap (λ (w : ℕ). pushed (popped (popped seen)) (known.Constant w)) (folded_is item.kind a b word is))
 
   pub sum_leads : (item : Item) (next : Seen) → slice_get items seen.item ≡ Some item → item.kind ≡ kind.Add
       → OnBoth text items placed op.Add seen next → Leads text items placed seen next
@@ -126,18 +145,6 @@ module _ (text : List ℕ) (items : List Item) (placed : List Placed) (seen : Se
       → OnBoth text items placed op.Sub seen next → Leads text items placed seen next
   difference_leads = both_leads kind.Sub op.Sub (λ i ws. (slice_index ws i.b + 65536 - slice_index ws i.c) % 65536) gives_sub (λ i ws. refl)
       (λ p item env vs more h. h)
-
-  pub product_leads : (item : Item) (next : Seen) → slice_get items seen.item ≡ Some item → item.kind ≡ kind.Mul
-      → OnConstant placed op.Muli seen next → Leads text items placed seen next
-  product_leads = constant_leads kind.Mul op.Muli (λ i ws. (slice_index ws i.b * i.imm) % 65536) gives_muli (λ i ws. refl) (λ p item env vs more h. h)
-
-  pub mask_leads : (item : Item) (next : Seen) → slice_get items seen.item ≡ Some item → item.kind ≡ kind.Mask
-      → OnConstant placed op.And seen next → Leads text items placed seen next
-  mask_leads = constant_leads kind.Mask op.And (λ i ws. bit_and (slice_index ws i.b) i.imm) gives_and (λ i ws. refl) (λ p item env vs more h. h)
-
-  pub shift_leads : (item : Item) (next : Seen) → slice_get items seen.item ≡ Some item → item.kind ≡ kind.Right
-      → OnConstant placed op.Shr seen next → Leads text items placed seen next
-  shift_leads = constant_leads kind.Right op.Shr (λ i ws. slice_index ws i.b / 2 ^ i.imm) gives_shr (λ i ws. refl) (λ p item env vs more h. h)
 
   pub name_leads : (item : Item) (r : ℕ) (next : Seen) → slice_get items seen.item ≡ Some item → item.kind ≡ kind.Named
       → HasName text seen.held item.at r → next ≡ pushed seen (known.Register r) → Leads text items placed seen next

@@ -15,6 +15,16 @@ negative = refl
 sums : joined kind.Add 65535 2 ≡ 1
 sums = refl
 
+-- a shift to the left wraps too, and a quotient has a remainder
+shifted : joined kind.Left 3 15 ≡ 32768
+shifted = refl
+
+quotient : joined kind.Div 50 8 ≡ 6
+quotient = refl
+
+remainder : joined kind.Rem 50 8 ≡ 2
+remainder = refl
+
 -- the text `x y1+`, with the names x and y1
 text : List ℕ
 text = 120 ∷ 32 ∷ 121 ∷ 49 ∷ 43 ∷ []
@@ -46,6 +56,14 @@ outputs = (10, 3, [], refl, (7, [], refl, inr ([], refl, refl)))
 refused : Says text program env [] []
 unfolding program text env item
 refused = (10, 3, [], refl, (7, [], refl, inl refl))
+
+-- out(50 % x)?; outputs 0
+left_constant : List Item
+left_constant = item kind.Number 0 50 ∷ item kind.Named 0 0 ∷ item kind.Rem 0 0 ∷ item kind.Put 0 0 ∷ item kind.BodyEnd 0 0 ∷ []
+
+divided : Says text left_constant env [] (0 ∷ [])
+unfolding left_constant text env item
+divided = (50, 10, [], refl, (0, [], refl, inr ([], refl, refl)))
 
 -- y1 = x - 3; out(y1)?;
 assigns : List Item

@@ -212,6 +212,30 @@ module _ (text : List ℕ) (items : List Item) (placed : List Placed) (seen : Se
       got = sound env (f x.words ∷ before) z y (subst (λ (ws : List ℕ).
           Tied text (pushed (written (popped (popped seen)) i.a) (known.Register i.a)) env (f x.words ∷ before) ws) words after) at.4
 
+  -- an operation joins two constants
+  pub folds : (item : Item) (o : ItemKind) (a b : ℕ) → slice_get items seen.item ≡ Some item
+      → ((env : Env) (vs more : List ℕ) → Joins o (Says text (drop (suc seen.item) items)) env vs more
+      → DoesItem text item item.kind (Says text (drop (suc seen.item) items)) env vs more)
+      → seen.second ≡ known.Constant a → seen.first ≡ known.Constant b
+      → Leads text items placed seen (pushed (popped (popped seen)) (known.Constant (joined o a b)))
+  folds item o a b there does left right sound env vs x y tied d =
+      (got.0, got.1, says_item item env vs got.0 there (does env vs got.0 (a, b, before, split.1, got.2)))
+    where
+      split : (before : List ℕ) × (vs ≡ b ∷ a ∷ before)
+      split = two_values vs a b (constant_is seen.first b right x.words (slice_get vs 0) tied.first)
+          (constant_is seen.second a left x.words (slice_get vs 1) tied.second)
+
+      before : List ℕ
+      before = split.0
+
+      bare : Tied text (popped (popped seen)) env before x.words
+      bare = tied_popped text (popped seen) env a before x.words
+          (tied_popped text seen env b (a ∷ before) x.words (subst (λ (ws : List ℕ). Tied text seen env ws x.words) split.1 tied))
+
+      got : (more : List ℕ) × (y.output ≡ x.output ++ more) × Says text (drop (suc seen.item) items) env (joined o a b ∷ before) more
+      got = sound env (joined o a b ∷ before) x y
+          (tied_pushed text (popped (popped seen)) env (known.Constant (joined o a b)) (joined o a b) before x.words refl bare) d
+
   pub number : (item : Item) → slice_get items seen.item ≡ Some item → item.kind ≡ kind.Number
       → Leads text items placed seen (pushed seen (known.Constant item.a))
   number item there is sound env vs x y tied d = (got.0, got.1, says_kind item kind.Number env vs got.0 there is got.2)

@@ -4,6 +4,7 @@ mod Steps
 mod Leads
 mod Bodies
 mod Holding
+mod Constants
 mod Cases
 mod Examples
 mod Noted

@@ -93,6 +93,13 @@ gives_shr i is = gives i op.Shr (λ ws. slice_index ws i.b / 2 ^ i.imm) is (λ c
 pub gives_and : (i : Instr) → i.opcode ≡ op.And → Gives i (λ ws. bit_and (slice_index ws i.b) i.imm)
 gives_and i is = gives i op.And (λ ws. bit_and (slice_index ws i.b) i.imm) is (λ choice s. refl)
 
+-- the word may be written in another way
+pub gives_same : (i : Instr) (f g : List ℕ → ℕ) → ((ws : List ℕ) → f ws ≡ g ws) → Gives i f → Gives i g
+gives_same i f g same gives x z acts = (
+  (gives x z acts).0 ∙ ap (λ (n : ℕ). slice_set x.words i.a n) (same x.words),
+  (gives x z acts).1,
+)
+
 -- an output that is not refused, and one that is
 out_on : (o : Option Refusal) (i : Instr) (pc : ℕ) (s done after : State) → ((target : ℕ) → answer (aimed i target) o s done ≡ Next (goto pc after))
     → goto pc after ≡ along done

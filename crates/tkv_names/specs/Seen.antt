@@ -1,6 +1,7 @@
 -- What a check of a routine knows after some items.
-use Rattle.std.specs.Prelude.{◌≡◌, ◌≢◌, ◌⊎◌, ◌<◌, ℕ, suc, ◌+◌, Bool, Option, Some, None, List, ◌++◌, length, drop, slice_get, slice_index, slice_set, bytes_eq, false}
+use Rattle.std.specs.Prelude.{◌≡◌, ◌≢◌, ◌⊎◌, ◌<◌, ℕ, suc, ◌+◌, ◌-◌, ◌^◌, Bool, Option, Some, None, List, ◌++◌, length, drop, slice_get, slice_index, slice_set, bytes_eq, false}
 use Rattle.tkv_syntax.specs.declared.item.Item.{Item}
+use Rattle.tkv_syntax.specs.declared.item.ItemKind.{ItemKind}
 use Rattle.tkv_syntax.specs.declared.item.ItemKind.TheVariants as kind
 use Rattle.tkv_places.specs.declared.placed.Placed.{Placed}
 use Rattle.tkv_places.specs.declared.placed.PlacedKind.TheVariants as placed_kind
@@ -15,7 +16,7 @@ use Rattle.tkv_checks.specs.Items.{SpellsRoutine, ItemAt, no_block}
 use Rattle.tkv_names.specs.declared.seen.Known.{Known}
 use Rattle.tkv_names.specs.declared.seen.Known.TheVariants as known
 use Rattle.tkv_names.specs.declared.seen.Seen.{Seen}
-use Rattle.tkv_names.specs.Named.{Env, name_at, with_name, parameters, Says, Outputs}
+use Rattle.tkv_names.specs.Named.{Env, name_at, with_name, joined, parameters, Says, Outputs}
 use Rattle.tkv_names.specs.Straight.{Straight, Any}
 
 -- a value is what is known of it
@@ -87,15 +88,36 @@ pub record OnWords (placed : List Placed) (opcode : Opcode) (seen next : Seen) :
   pub free : IsFree (popped (popped seen)) instr.a
   pub after : next ≡ pushed (written (popped (popped seen)) instr.a) (known.Register instr.a)
 
--- the same of a register and a constant
-pub record OnConstant (placed : List Placed) (opcode : Opcode) (seen next : Seen) : Type 0 where
-  pub instr : Instr
-  pub done : IsDone placed seen.placed instr
-  pub is : instr.opcode ≡ opcode
-  pub left : seen.second ≡ known.Register instr.b
-  pub right : seen.first ≡ known.Constant instr.imm
-  pub free : IsFree (popped (popped seen)) instr.a
-  pub after : next ≡ pushed (written (popped (popped seen)) instr.a) (known.Register instr.a)
+-- an instruction with this opcode and number makes of a word what an operation makes of the word and a constant
+abbrev pub Immediate : ItemKind → ℕ → Opcode → ℕ → Type 0
+Immediate kind.Mul n opcode imm = (opcode ≡ op.Muli) × (imm ≡ n)
+Immediate kind.Mask n opcode imm = (opcode ≡ op.And) × (imm ≡ n)
+Immediate kind.Right n opcode imm = (opcode ≡ op.Shr) × (imm ≡ n)
+Immediate kind.Left n opcode imm = (opcode ≡ op.Muli) × (imm ≡ 2 ^ n)
+Immediate kind.Div n opcode imm = (opcode ≡ op.Shr) × (n ≡ 2 ^ imm)
+Immediate kind.Rem n opcode imm = (opcode ≡ op.And) × ((k : ℕ) × (n ≡ 2 ^ k)) × (imm ≡ n - 1)
+Immediate _ n opcode imm = ⊥
+
+-- the operation makes the same of two words in both orders
+abbrev pub Commutes : ItemKind → Type 0
+Commutes o = (o ≡ kind.Mul) ⊎ (o ≡ kind.Mask)
+
+-- the last two values are the word in a register and a constant
+abbrev pub IsBeside : ItemKind → Seen → ℕ → ℕ → Type 0
+IsBeside o seen r n = ((seen.second ≡ known.Register r) × (seen.first ≡ known.Constant n))
+    ⊎ (Commutes o × (seen.second ≡ known.Constant n) × (seen.first ≡ known.Register r))
+
+-- the operation makes the word of two constants
+abbrev pub IsFolded : ItemKind → ℕ → ℕ → ℕ → Type 0
+IsFolded kind.Add x y word = word ≡ joined kind.Add x y
+IsFolded kind.Sub x y word = word ≡ joined kind.Sub x y
+IsFolded kind.Mul x y word = word ≡ joined kind.Mul x y
+IsFolded kind.Div x y word = word ≡ joined kind.Div x y
+IsFolded kind.Rem x y word = word ≡ joined kind.Rem x y
+IsFolded kind.Mask x y word = word ≡ joined kind.Mask x y
+IsFolded kind.Left x y word = word ≡ joined kind.Left x y
+IsFolded kind.Right x y word = word ≡ joined kind.Right x y
+IsFolded _ x y word = ⊥
 
 -- later the last two values are in registers, and an instruction makes one of them
 pub record OnBoth (text : List ℕ) (items : List Item) (placed : List Placed) (opcode : Opcode) (seen next : Seen) : Type 0 where

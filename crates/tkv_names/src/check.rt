@@ -3,9 +3,10 @@
 ghost use Rattle.std.specs.Prelude.{◌≡◌, IsTrue, IfSome, Some, slice_get};
 ghost use Rattle.tkv_syntax.specs.declared.item.ItemKind.TheVariants as kind;
 ghost use Rattle.tkv_names.specs.declared.seen.Known.TheVariants as what;
-ghost use Rattle.tkv_names.specs.Seen.{Leads, Sound, IsDone, IsOut, OnWords, OnConstant, OnBoth, IsSetting, IsPassed, IsOver};
+ghost use Rattle.tkv_names.specs.Seen.{Leads, Sound, IsDone, IsOut, OnWords, OnBoth, IsBeside, IsSetting, IsPassed, IsOver};
 
 use crate::held::{register_of, renamed};
+use crate::joined::{commutes, folded, immediate};
 use crate::seen::{Known, Seen};
 use geos_image::Instr;
 use geos_opcodes::Opcode;
@@ -112,14 +113,14 @@ impl Check<'_> {
     }
 
     /// After an instruction that joins the last two values, a register and a constant.
-    fn on_constant(&self, seen: Seen, opcode: Opcode) -> Option<Seen>
-        ensures { IfSome result (λ next. OnConstant self.now.placed.now opcode seen next) }
+    fn on_constant(&self, seen: Seen, item: &Item, register: u8, number: u16) -> Option<Seen>
+        ensures { slice_get self.now.items.now seen.item ≡ Some item.now → IsBeside item.now.kind seen register number
+            → IfSome result (λ next. Leads self.now.text.now self.now.items.now self.now.placed.now seen next) }
     {
+        let by = immediate(item.kind, number)?;
+        let (opcode, imm) = by;
         let instr = self.done_at(seen.placed)?;
-        let (Known::Register(left), Known::Constant(right)) = (seen.second, seen.first) else {
-            return None;
-        };
-        if instr.opcode != opcode || instr.b != left || instr.imm != right {
+        if instr.opcode != opcode || instr.b != register || instr.imm != imm {
             return None;
         }
         let bare = seen.popped().popped().written(instr.a)?;
@@ -151,28 +152,41 @@ impl Check<'_> {
         self.on_both(seen, Opcode::Sub)
     }
 
-    /// After a product with a constant.
-    fn product(&self, seen: Seen, item: &Item) -> Option<Seen>
-        ensures { slice_get self.now.items.now seen.item ≡ Some item.now → item.now.kind ≡ kind.Mul
+    /// After an operation on a register and a constant.
+    fn beside(&self, seen: Seen, item: &Item) -> Option<Seen>
+        ensures { slice_get self.now.items.now seen.item ≡ Some item.now
             → IfSome result (λ next. Leads self.now.text.now self.now.items.now self.now.placed.now seen next) }
     {
-        self.on_constant(seen, Opcode::Muli)
+        match (seen.second, seen.first) {
+            (Known::Register(register), Known::Constant(number)) => {
+                self.on_constant(seen, item, register, number)
+            }
+            (Known::Constant(number), Known::Register(register)) if commutes(item.kind) => {
+                self.on_constant(seen, item, register, number)
+            }
+            _ => None,
+        }
     }
 
-    /// After a mask by a constant.
-    fn mask(&self, seen: Seen, item: &Item) -> Option<Seen>
-        ensures { slice_get self.now.items.now seen.item ≡ Some item.now → item.now.kind ≡ kind.Mask
+    /// After an operation on two constants.
+    fn folded(&self, seen: Seen, item: &Item, left: u16, right: u16) -> Option<Seen>
+        ensures { slice_get self.now.items.now seen.item ≡ Some item.now → seen.second ≡ what.Constant left → seen.first ≡ what.Constant right
             → IfSome result (λ next. Leads self.now.text.now self.now.items.now self.now.placed.now seen next) }
     {
-        self.on_constant(seen, Opcode::And)
+        let word = folded(item.kind, left, right)?;
+        seen.popped().popped().pushed(Known::Constant(word))
     }
 
-    /// After a shift to the right by a constant.
-    fn shift(&self, seen: Seen, item: &Item) -> Option<Seen>
-        ensures { slice_get self.now.items.now seen.item ≡ Some item.now → item.now.kind ≡ kind.Right
+    /// After an operation, at most one of whose operands is a constant.
+    fn on_word(&self, seen: Seen, item: &Item) -> Option<Seen>
+        ensures { slice_get self.now.items.now seen.item ≡ Some item.now
             → IfSome result (λ next. Leads self.now.text.now self.now.items.now self.now.placed.now seen next) }
     {
-        self.on_constant(seen, Opcode::Shr)
+        match item.kind {
+            ItemKind::Add => self.sum(seen, item),
+            ItemKind::Sub => self.difference(seen, item),
+            _ => self.beside(seen, item),
+        }
     }
 
     /// After an operation.
@@ -180,13 +194,9 @@ impl Check<'_> {
         ensures { slice_get self.now.items.now seen.item ≡ Some item.now
             → IfSome result (λ next. Leads self.now.text.now self.now.items.now self.now.placed.now seen next) }
     {
-        match item.kind {
-            ItemKind::Add => self.sum(seen, item),
-            ItemKind::Sub => self.difference(seen, item),
-            ItemKind::Mul => self.product(seen, item),
-            ItemKind::Mask => self.mask(seen, item),
-            ItemKind::Right => self.shift(seen, item),
-            _ => None,
+        match (seen.second, seen.first) {
+            (Known::Constant(left), Known::Constant(right)) => self.folded(seen, item, left, right),
+            _ => self.on_word(seen, item),
         }
     }
 
@@ -358,8 +368,14 @@ impl Check<'_> {
             ItemKind::Number => self.number(seen, item),
             ItemKind::Named => self.named(seen, item),
             ItemKind::Put => self.put(seen, item),
-            ItemKind::Add | ItemKind::Sub | ItemKind::Mul | ItemKind::Mask | ItemKind::Right =>
-                self.operation(seen, item),
+            ItemKind::Add
+            | ItemKind::Sub
+            | ItemKind::Mul
+            | ItemKind::Div
+            | ItemKind::Rem
+            | ItemKind::Mask
+            | ItemKind::Left
+            | ItemKind::Right => self.operation(seen, item),
             _ => self.stated(seen, item),
         }
     }

@@ -4,6 +4,7 @@
 mod check;
 mod covered;
 mod held;
+mod joined;
 mod name;
 mod routine;
 mod seen;
