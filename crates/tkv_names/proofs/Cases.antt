@@ -1,5 +1,5 @@
 -- What each item of a source leads to.
-use Rattle.std.proofs.Common.{◌≡◌, ℕ, suc, ◌+◌, ◌-◌, ◌*◌, ◌/◌, ◌%◌, ◌^◌, Option, Some, None, List, [], refl, sym, ap, ◌∙◌, subst, inl, inr, ◌++◌}
+use Rattle.std.proofs.Common.{◌≡◌, ℕ, suc, ◌+◌, ◌-◌, ◌%◌, Option, Some, None, List, [], refl, sym, ap, ◌∙◌, subst, inl, inr, ◌++◌}
 use Rattle.std.specs.Prelude.{IfSome, drop, slice_get, slice_index}
 use Rattle.geos_image.specs.declared.instr.Instr.{Instr}
 use Rattle.geos_opcodes.specs.declared.opcode.Opcode.{Opcode}

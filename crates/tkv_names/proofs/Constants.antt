@@ -1,5 +1,5 @@
 -- Operations on a register and a constant, and on two constants.
-use Rattle.std.proofs.Common.{◌≡◌, ℕ, suc, ◌+◌, ◌-◌, ◌*◌, ◌/◌, ◌%◌, ◌^◌, List, refl, sym, ap, ◌∙◌, subst, inl, inr, arith, mul_comm}
+use Rattle.std.proofs.Common.{◌≡◌, ℕ, ◌-◌, ◌*◌, ◌/◌, ◌%◌, ◌^◌, List, sym, ap, ◌∙◌, subst, inl, inr, mul_comm}
 use Rattle.std.specs.Prelude.{bit_and, drop, slice_index}
 use lib.Bits.{and_mask, and_comm}
 use Rattle.geos_image.specs.declared.instr.Instr.{Instr}

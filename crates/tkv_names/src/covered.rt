@@ -69,3 +69,31 @@ pub fn named_routines(
     }
     Ok(named)
 }
+
+/// A source with the items that it writes, its placed public routines, and which of them are covered.
+#[derive(Drop)]
+pub struct NamedSource {
+    pub text: Vec<u8>,
+    pub items: Vec<Item>,
+    pub placed: Vec<Vec<Placed>>,
+    /// Of each public routine, the item that declares it, if the placed routine is known to do what the source says with its names.
+    pub named: Vec<Option<usize>>,
+}
+
+/// A source and its placed public routines, with the routines that are covered.
+pub fn named_source(
+    alloc: Global,
+    text: Vec<u8>,
+    items: Vec<Item>,
+    placed: Vec<Vec<Placed>>,
+) -> Result<NamedSource, AllocError>
+    ensures { IfOk result (λ one. AreNamed one.text.items one.items.items one.placed.items one.named.items) }
+{
+    let named = named_routines(alloc, &text, &items, &placed)?;
+    Ok(NamedSource {
+        text,
+        items,
+        placed,
+        named,
+    })
+}

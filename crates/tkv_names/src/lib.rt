@@ -9,5 +9,5 @@ mod name;
 mod routine;
 mod seen;
 
-pub use covered::named_routines;
+pub use covered::{NamedSource, named_routines, named_source};
 pub use routine::means_named;

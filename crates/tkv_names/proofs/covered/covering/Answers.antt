@@ -1,4 +1,4 @@
-use Rattle.std.proofs.Common.{◌≡◌, ℕ, Some, List, refl, ap, ◌∙◌, subst}
+use Rattle.std.proofs.Common.{◌≡◌, ℕ, List, refl, ap, ◌∙◌, subst}
 use Rattle.std.specs.Global.{Vec}
 use Rattle.tkv_places.specs.declared.placed.Placed.{Placed}
 use Rattle.tkv_names.specs.Seen.{MeansNamed}
