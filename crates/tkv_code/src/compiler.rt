@@ -3,6 +3,7 @@
 ghost use Rattle.std.specs.Prelude.{◌≤◌, length, IfOk, IfErr};
 ghost use Rattle.geos_verify.specs.Rules.{Accepted};
 ghost use Rattle.tkv_checks.specs.Checked.{IsWritten};
+ghost use Rattle.tkv_names.specs.Seen.{AreNamed};
 
 use crate::emitter::{Coded, code_of};
 use crate::skeleton::{bare_point, skeleton, with_budgets};
@@ -11,16 +12,17 @@ use geos_infer::{FindError, find_image};
 use geos_verify::{Checked, Reject, check};
 use std::alloc::{AllocError, Global};
 use tkv_checks::first_other;
+use tkv_names::{NamedSource, named_source};
 use tkv_places::{Declared, Placed, SourceTest, declare, place_routine};
-use tkv_syntax::{Fault, ItemKind, Name, Why, name_at, parse_source};
+use tkv_syntax::{Fault, Item, ItemKind, Name, Why, name_at, parse_source};
 
 /// What a source is compiled to.
 #[derive(Drop)]
 pub struct Compiled {
     /// The image, which the verifier accepted.
     pub checked: Checked,
-    /// The placed routines, whose statements their code carries out.
-    pub placed: Vec<Vec<Placed>>,
+    /// The source with its placed routines, whose statements their code carries out.
+    pub named: NamedSource,
     /// Of each instruction, where the source says it.
     pub places: Vec<u32>,
     /// Where the source declares routines that no public routine calls.
@@ -30,6 +32,8 @@ pub struct Compiled {
 /// The routines that are coded, and their instructions. After the first fault they do not matter.
 #[derive(Drop)]
 struct Program {
+    text: Vec<u8>,
+    items: Vec<Item>,
     routines: Vec<Routine>,
     /// Where the source declares each.
     heads: Vec<u32>,
@@ -141,9 +145,10 @@ fn checked_alone(
 
 /// The routines of a source, coded.
 fn program_of(alloc: Global, text: &[u8]) -> Result<Program, Fault> {
-    let mut declared = declare(alloc, parse_source(alloc, text)?)?;
-    declared.tests(alloc)?;
+    let source = parse_source(alloc, text)?;
     let mut program = Program {
+        text: Vec::from_slice(alloc, &source.text)?,
+        items: Vec::from_slice(alloc, &source.items)?,
         routines: Vec::new(alloc),
         heads: Vec::new(alloc),
         placed: Vec::new(alloc),
@@ -152,6 +157,8 @@ fn program_of(alloc: Global, text: &[u8]) -> Result<Program, Fault> {
         uncalled: Vec::new(alloc),
         fault: None,
     };
+    let mut declared = declare(alloc, source)?;
+    declared.tests(alloc)?;
     for index in 0..declared.items().len() {
         if let Some(at) = public_routine(&declared, index) {
             let routine = place_routine(alloc, declared, index)?;
@@ -247,9 +254,13 @@ fn checked_of(image: Image, places: &[u32]) -> Result<Checked, Fault>
 /// The image of a source, or the first fault that is found.
 fn compile_or_fault(alloc: Global, text: &[u8]) -> Result<Compiled, Fault>
     ensures accepted { IfOk result (λ compiled. Accepted compiled.checked) }
-    ensures written { IfOk result (λ compiled. IsWritten compiled.checked compiled.placed.items) }
+    ensures written { IfOk result (λ compiled. IsWritten compiled.checked compiled.named.placed.items) }
+    ensures named { IfOk result (λ compiled. AreNamed compiled.named.text.items compiled.named.items.items compiled.named.placed.items
+        compiled.named.named.items) }
 {
     let Program {
+        text,
+        items,
         routines,
         heads,
         placed,
@@ -260,12 +271,13 @@ fn compile_or_fault(alloc: Global, text: &[u8]) -> Result<Compiled, Fault>
     } = program_of(alloc, text)?;
     let image = image_of(alloc, routines, points, &heads)?;
     let checked = checked_of(image, &places)?;
-    if let Some(r) = first_other(checked.image(), &placed) {
+    let named = named_source(alloc, text, items, placed)?;
+    if let Some(r) = first_other(checked.image(), &named.placed) {
         return Err(Fault::new(Why::OtherCode, place_in(&heads, r)));
     }
     Ok(Compiled {
         checked,
-        placed,
+        named,
         places,
         uncalled,
     })
@@ -289,11 +301,13 @@ pub fn tests_of(alloc: Global, text: &[u8]) -> Result<Vec<SourceTest>, Fault> {
 
 /// The image of a source, which the verifier accepts. Rows and numbers of steps are found as for an assembly text, and the verifier decides
 /// here: what it refuses is a fault at the place that the source says it. Each routine's code is then compared with the placed routine: a run
-/// of it does what the placed routine's statement says (`tkv_meaning`). A fault's place is one of the source, or its end, so that
-/// `place_of` gives a line that the source has. `Why::Memory` may come at any source.
+/// of it does what the placed routine's statement says (`tkv_meaning`). Routines that `tkv_names` covers output what the source says. A
+/// fault's place is one of the source, or its end, so that `place_of` gives a line that the source has. `Why::Memory` may come at any source.
 pub fn compile(alloc: Global, text: &[u8]) -> Result<Compiled, Fault>
     ensures accepted { IfOk result (λ compiled. Accepted compiled.checked) }
-    ensures written { IfOk result (λ compiled. IsWritten compiled.checked compiled.placed.items) }
+    ensures written { IfOk result (λ compiled. IsWritten compiled.checked compiled.named.placed.items) }
+    ensures named { IfOk result (λ compiled. AreNamed compiled.named.text.items compiled.named.items.items compiled.named.placed.items
+        compiled.named.named.items) }
     ensures place { IfErr result (λ fault. fault.at ≤ length text.now) }
 {
     match compile_or_fault(alloc, text) {
