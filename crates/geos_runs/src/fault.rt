@@ -53,7 +53,7 @@ pub enum RunFault<'a> {
     TooManyNumbers,
 }
 
-/// What follows words of a message.
+/// What stands between words of a message.
 #[derive(Clone, Copy)]
 enum Item<'a> {
     Nothing,
@@ -62,103 +62,117 @@ enum Item<'a> {
     Name(&'a str),
 }
 
-/// Words of a message, and what follows them.
-type Part<'a> = (&'static str, Item<'a>);
-
-/// A message has no more parts.
-const END: Part<'static> = ("", Item::Nothing);
-
-/// A message of words.
-fn words<'a>(words: &'static str) -> [Part<'a>; 4] {
-    [(words, Item::Nothing), END, END, END]
+/// The items of a message with one.
+fn one<'a>(item: Item<'a>) -> [Item<'a>; 3] {
+    [item, Item::Nothing, Item::Nothing]
 }
 
-/// A message with one item.
-fn one<'a>(before: &'static str, item: Item<'a>, after: &'static str) -> [Part<'a>; 4] {
-    [(before, item), (after, Item::Nothing), END, END]
-}
-
-/// A message with two items.
-fn two<'a>(one: Part<'a>, other: Part<'a>, after: &'static str) -> [Part<'a>; 4] {
-    [one, other, (after, Item::Nothing), END]
+/// The items of a message with two.
+fn two<'a>(one: Item<'a>, other: Item<'a>) -> [Item<'a>; 3] {
+    [one, other, Item::Nothing]
 }
 
 impl<'a> RunFault<'a> {
-    /// The message, or its beginning if a part of the fault has a message.
-    fn parts(&self) -> [Part<'a>; 4] {
-        match *self {
-            RunFault::Stream(_)
-            | RunFault::File(_)
-            | RunFault::Session(_)
-            | RunFault::BadLines(_, _) => words(""),
-            RunFault::Refused(line, refusal) => two(
-                ("line ", Item::Number(line)),
-                (": refused ", Item::Number(usize::from(refusal))),
-                "",
-            ),
-            RunFault::Failed(passed, failed) => two(
-                ("", Item::Number(passed)),
-                (" passed, ", Item::Number(failed)),
-                " failed",
-            ),
-            RunFault::NoTests => words("no tests: give a SCRIPT, or write a test into a source"),
-            RunFault::NotDone(refusal) => one("refused ", Item::Number(usize::from(refusal)), ""),
-            RunFault::NoArray(block, chunk) => two(
-                ("no array: chunk ", Item::Number(usize::from(chunk))),
-                (" of ", Item::Number(usize::from(block))),
-                "",
-            ),
-            RunFault::OtherSize(size, requested) => two(
-                ("elements of ", Item::Number(size)),
-                (" bytes, and the fields have ", Item::Number(requested)),
-                "",
-            ),
-            RunFault::Varying => words("elements of varying sizes: omit '--fields'"),
-            RunFault::BadRow(path, row, _) => {
-                two(("", Item::Name(path)), (":", Item::Number(row)), ": ")
+    /// The words of the message before its items. None if a part of the fault has the message.
+    fn first_words(&self) -> &'static str {
+        match self {
+            RunFault::Refused(_, _) => "line ",
+            RunFault::NoTests => "no tests: give a SCRIPT, or write a test into a source",
+            RunFault::NotDone(_) => "refused ",
+            RunFault::NoArray(_, _) => "no array: chunk ",
+            RunFault::OtherSize(_, _) => "elements of ",
+            RunFault::Varying => "elements of varying sizes: omit '--fields'",
+            RunFault::NoRoutine(_) => "bad call: no public routine ",
+            RunFault::NoSuchRoutine(_) => "no routine ",
+            RunFault::NoLine(_, _) => "routine ",
+            RunFault::BadNumber(_, _) => "bad call: w",
+            RunFault::BadBlocks(_, _, _) => "bad call: ",
+            RunFault::BadBlock(_) => "bad call: a block can't be ",
+            RunFault::TooManyNumbers => "bad call: more than eight numbers",
+            _ => "",
+        }
+    }
+
+    /// The words before its second item.
+    fn second_words(&self) -> &'static str {
+        match self {
+            RunFault::Refused(_, _) => ": refused ",
+            RunFault::Failed(_, _) => " passed, ",
+            RunFault::NoArray(_, _) => " of ",
+            RunFault::OtherSize(_, _) => " bytes, and the fields have ",
+            RunFault::BadRow(_, _, _) => ":",
+            RunFault::NoLine(_, _) => " has no instruction at ",
+            RunFault::BadNumber(_, _) => " can't be ",
+            RunFault::BadBlocks(_, _, _) => " borrows blocks: ",
+            _ => "",
+        }
+    }
+
+    /// The words before its third item.
+    fn third_words(&self) -> &'static str {
+        match self {
+            RunFault::BadBlocks(_, _, _) => ", and the call has ",
+            _ => "",
+        }
+    }
+
+    /// The items of the message.
+    fn items(&self) -> [Item<'a>; 3] {
+        match self {
+            RunFault::Refused(line, refusal) => {
+                two(Item::Number(*line), Item::Number(usize::from(*refusal)))
             }
-            RunFault::LongRows(path) => one("", Item::Name(path), ": more than 1048576 bytes"),
-            RunFault::NoRoutine(name) => one("bad call: no public routine ", Item::Name(name), ""),
-            RunFault::NoSuchRoutine(name) => one("no routine ", Item::Name(name), ""),
-            RunFault::NoLine(routine, line) => two(
-                ("routine ", Item::Name(routine)),
-                (" has no instruction at ", Item::Name(line)),
-                ": trace without '--break' shows lines and labels",
+            RunFault::NoArray(block, chunk) => two(
+                Item::Number(usize::from(*chunk)),
+                Item::Number(usize::from(*block)),
             ),
-            RunFault::BadNumber(word, number) => two(
-                ("bad call: w", Item::Number(word)),
-                (" can't be ", Item::Name(number)),
-                "",
-            ),
+            RunFault::Failed(one, other) | RunFault::OtherSize(one, other) => {
+                two(Item::Number(*one), Item::Number(*other))
+            }
+            RunFault::NotDone(refusal) => one(Item::Number(usize::from(*refusal))),
+            RunFault::BadRow(path, row, _) => two(Item::Name(*path), Item::Number(*row)),
+            RunFault::LongRows(name)
+            | RunFault::NoRoutine(name)
+            | RunFault::NoSuchRoutine(name)
+            | RunFault::BadBlock(name) => one(Item::Name(*name)),
+            RunFault::NoLine(routine, line) => two(Item::Name(*routine), Item::Name(*line)),
+            RunFault::BadNumber(word, number) => two(Item::Number(*word), Item::Name(*number)),
             RunFault::BadBlocks(name, borrowed, given) => [
-                ("bad call: ", Item::Name(name)),
-                (" borrows blocks: ", Item::Number(borrowed)),
-                (", and the call has ", Item::Number(given)),
-                (
-                    ", each as @ and its handle after the numbers",
-                    Item::Nothing,
-                ),
+                Item::Name(*name),
+                Item::Number(*borrowed),
+                Item::Number(*given),
             ],
-            RunFault::BadBlock(word) => one(
-                "bad call: a block can't be ",
-                Item::Name(word),
-                ": it is @ and a handle up to 65535",
-            ),
-            RunFault::TooManyNumbers => words("bad call: more than eight numbers"),
+            _ => one(Item::Nothing),
+        }
+    }
+
+    /// The words of the message after its items.
+    fn last_words(&self) -> &'static str {
+        match self {
+            RunFault::Failed(_, _) => " failed",
+            RunFault::BadRow(_, _, _) => ": ",
+            RunFault::LongRows(_) => ": more than 1048576 bytes",
+            RunFault::NoLine(_, _) => ": trace without '--break' shows lines and labels",
+            RunFault::BadBlocks(_, _, _) => ", each as @ and its handle after the numbers",
+            RunFault::BadBlock(_) => ": it is @ and a handle up to 65535",
+            _ => "",
         }
     }
 }
 
 impl Display for RunFault<'_> {
     fn fmt<W: fmt::Write>(&self, f: &mut Formatter<W>) -> fmt::Result {
-        for (words, item) in &self.parts() {
-            f.write_str(words)?;
-            match item {
+        let words = [self.first_words(), self.second_words(), self.third_words()];
+        let items = self.items();
+        for n in 0..3 {
+            f.write_str(words[n])?;
+            match items[n] {
                 Item::Nothing => {}
                 Item::Number(number) => number.fmt(f)?,
                 Item::Name(name) => Named(name).fmt(f)?,
             }
         }
+        f.write_str(self.last_words())?;
         match self {
             RunFault::Stream(fault) => fault.fmt(f),
             RunFault::File(fault) => fault.fmt(f),
