@@ -1,11 +1,14 @@
 //! What becomes of changed blocks at the end of a run on a VM file.
 
+use crate::bad_lines::printed_path;
 use crate::fault::RunFault;
 use crate::manner::Manner;
 use crate::objects::print_lost;
 use geos_kernel::Kernel;
-use geos_shell::{EndCommit, Named, tell};
+use geos_shell::{EndCommit, tell};
 use geos_terms::Refusal;
+use sentence_text::Text;
+use std::alloc::{AllocError, Global};
 use vm_file::{FileDevice, How};
 
 /// The handles of blocks are from 1 to this one.
@@ -22,6 +25,19 @@ fn changed_blocks(kernel: &Kernel<FileDevice>) -> usize {
     changed
 }
 
+/// The note that so many changed blocks of the file with the path are lost.
+fn lost_note(alloc: Global, path: &str, changed: usize) -> Result<Vec<u8>, AllocError> {
+    let file = printed_path(alloc, path)?;
+    let mut note = Text::new(alloc);
+    note.put(&file);
+    note.put_number(
+        ": note: changed blocks that are not committed: ",
+        changed as u64,
+    );
+    note.put("; commit them by update or save, or give --update or --save\n");
+    note.finish()
+}
+
 /// Reports the changed blocks of the file with the path that no commit has written, as a diagnostic.
 fn tell_of_lost(rt: &HostRuntime, manner: &Manner, path: &str, kernel: &Kernel<FileDevice>) {
     let changed = changed_blocks(kernel);
@@ -31,11 +47,8 @@ fn tell_of_lost(rt: &HostRuntime, manner: &Manner, path: &str, kernel: &Kernel<F
     if manner.reports.json {
         return print_lost(rt, path, changed);
     }
-    let path = Named(path);
-    if let Ok(note) = format!(in rt.alloc();
-        "{path}: note: changed blocks that are not committed: {changed}; commit them by update or save, or give --update or --save\n"
-    ) {
-        tell(rt, manner.reports, note.as_bytes());
+    if let Ok(note) = lost_note(rt.alloc(), path, changed) {
+        tell(rt, manner.reports, &note);
     }
 }
 

@@ -8,7 +8,8 @@ use geos_cli::{Counted, ScriptFault, run_call};
 use geos_kernel::Kernel;
 use geos_shell::{ChunkPath, New};
 use geos_text::{first_line, number};
-use std::alloc::Global;
+use sentence_text::Text;
+use std::alloc::{AllocError, Global};
 use vm_file::Device;
 
 /// The routines that make what is written into. Each outputs the handle of a block or a group, and that of its new chunk or item, which has
@@ -73,6 +74,31 @@ fn image_of(alloc: Global) -> Option<Vec<u8>> {
     }
 }
 
+/// A word in decimal digits.
+fn digits_of(alloc: Global, word: u16) -> Result<Vec<u8>, AllocError> {
+    let mut digits = Text::new(alloc);
+    digits.put_number("", u64::from(word));
+    digits.finish()
+}
+
+/// What the routine outputs that makes something. None if there is no memory for it.
+fn output_of<D: Device + Drop>(alloc: Global, new: New, kernel: &mut Kernel<D>) -> Option<Vec<u8>>
+    requires { NoneLocked kernel.old.core.blocks }
+{
+    let (name, word) = call_of(new);
+    let (Some(image), Ok(digits)) = (image_of(alloc), digits_of(alloc, word)) else {
+        return None;
+    };
+    let Ok(word) = std::str::from_utf8(&digits) else {
+        return None;
+    };
+    let mut out = Counted::new(Vec::new(alloc));
+    match run_call(alloc, &image, name, &[word], kernel, &mut out) {
+        Ok(None) => Some(out.stream),
+        Ok(Some(_)) | Err(_) => None,
+    }
+}
+
 /// The two handles that a routine outputs, or the refusal.
 fn handles_in<'a>(output: &[u8]) -> Result<(u16, u16), RunFault<'a>> {
     let (one, rest) = first_line(output);
@@ -93,20 +119,16 @@ pub(crate) fn made<'a, D: Device + Drop>(
 ) -> Result<ChunkPath<'a>, RunFault<'a>>
     requires { NoneLocked kernel.old.core.blocks }
 {
-    let (name, word) = call_of(new);
-    let mut out = Counted::new(Vec::new(alloc));
-    let (Some(image), Ok(word)) = (image_of(alloc), format!(in alloc; "{word}")) else {
+    let Some(output) = output_of(alloc, new, kernel) else {
         return Err(RunFault::Session(ScriptFault::Memory));
     };
-    match run_call(alloc, &image, name, &[word.as_str()], kernel, &mut out) {
-        Ok(None) => {}
-        Ok(Some(_)) | Err(_) => return Err(RunFault::Session(ScriptFault::Memory)),
+    match handles_in(&output) {
+        Ok((handle, chunk)) => Ok(ChunkPath {
+            file,
+            handle,
+            chunk,
+            item: matches!(new, New::Group | New::Item(_)),
+        }),
+        Err(fault) => Err(fault),
     }
-    let (handle, chunk) = handles_in(&out.stream)?;
-    Ok(ChunkPath {
-        file,
-        handle,
-        chunk,
-        item: matches!(new, New::Group | New::Item(_)),
-    })
 }
