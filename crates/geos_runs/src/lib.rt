@@ -14,6 +14,7 @@ mod making;
 mod manner;
 mod objects;
 mod paging;
+mod printing;
 mod progress;
 mod running;
 mod step_objects;

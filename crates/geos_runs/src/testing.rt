@@ -8,17 +8,16 @@ use crate::bad_lines::printed_path;
 use crate::comparing::whole;
 use crate::coverage::coverage_text;
 use crate::fault::RunFault;
+use crate::printing::{print_made, write_made};
 use geos_cli::ScriptFault;
 use geos_files::{FileFault, Locked, lock_to_read, opened};
 use geos_kernel::{Kernel, kernel_in_memory};
 use geos_scripts::NameUse;
-use geos_shell::{
-    Reason, StreamFault, TestRequest, are_one_file_read, print, print_lines, read, write,
-};
+use geos_shell::{Reason, StreamFault, TestRequest, are_one_file_read, print_lines, read};
 use script_tests::{Coverage, Part, TestScript, Tested, test_script};
 use sentence_text::Text;
-use std::alloc::Global;
-use vm_file::{Device, Disk, MemoryDevice, OpenError, VmFile};
+use std::alloc::{AllocError, Global};
+use vm_file::{Device, Disk, FileDevice, MemoryDevice, OpenError, VmFile};
 
 /// What is tested: an image, and the text or the source that it was made of.
 #[derive(Clone, Copy)]
@@ -41,7 +40,7 @@ pub struct OwnTest<'t> {
     pub part: Part<'t>,
 }
 
-/// The bytes of a file.
+/// The bytes of a VM file.
 #[derive(Drop)]
 struct Contents<'a> {
     path: &'a str,
@@ -49,20 +48,14 @@ struct Contents<'a> {
 }
 
 impl<'a> Contents<'a> {
-    /// Those of the script with the path.
-    fn of_script(rt: &HostRuntime, path: &'a str) -> Result<Contents<'a>, RunFault<'a>> {
-        let bytes = read(rt, path, MOST_READ)?;
-        Ok(Contents { path, bytes })
-    }
-
-    /// Those of the VM file with the path. Its lock is released before anything runs.
-    fn of_file(rt: &HostRuntime, path: &'a str) -> Result<Contents<'a>, RunFault<'a>> {
-        let Locked {
-            device,
-            lock: _lock,
-        } = lock_to_read(rt, path)?;
-        let mut device = opened(rt, path, device)?.into_device();
-        let Ok(mut bytes) = Vec::from_elem(rt.alloc(), 0u8, device.len() as usize) else {
+    /// Those of an open VM file with the path.
+    fn of_open(
+        alloc: Global,
+        path: &'a str,
+        file: VmFile<FileDevice>,
+    ) -> Result<Contents<'a>, RunFault<'a>> {
+        let mut device = file.into_device();
+        let Ok(mut bytes) = Vec::from_elem(alloc, 0u8, device.len() as usize) else {
             return Err(RunFault::Session(ScriptFault::Memory));
         };
         match device.read_at(0, &mut bytes) {
@@ -71,122 +64,34 @@ impl<'a> Contents<'a> {
         }
     }
 
+    /// Those of the VM file with the path. Its lock is released before anything runs.
+    fn of_file(rt: &HostRuntime, path: &'a str) -> Result<Contents<'a>, RunFault<'a>> {
+        let Locked {
+            device,
+            lock: _lock,
+        } = match lock_to_read(rt, path) {
+            Ok(locked) => locked,
+            Err(fault) => return Err(RunFault::Stream(fault)),
+        };
+        match opened(rt, path, device) {
+            Ok(file) => Contents::of_open(rt.alloc(), path, file),
+            Err(fault) => Err(RunFault::File(fault)),
+        }
+    }
+
     /// A VM file of these bytes in memory.
-    fn file(&self, alloc: Global) -> Result<VmFile<MemoryDevice>, FileFault<'a>> {
-        let path = self.path;
+    fn file(&self, alloc: Global) -> Result<VmFile<MemoryDevice>, OpenError> {
         let Ok(mut device) = MemoryDevice::new(alloc, self.bytes.len() as u64) else {
-            return Err(FileFault::Open(path, OpenError::Memory));
+            return Err(OpenError::Memory);
         };
         match device.write_at(0, &self.bytes) {
             Ok(()) => {}
-            Err(Disk) => return Err(FileFault::Open(path, OpenError::Disk)),
+            Err(Disk) => return Err(OpenError::Disk),
         }
         match VmFile::open(alloc, device) {
             Ok(file) => Ok(file),
-            Err((_device, error)) => Err(FileFault::Open(path, error)),
+            Err((_device, error)) => Err(error),
         }
-    }
-}
-
-/// A script that is tested, and what it is for.
-#[derive(Drop)]
-struct Subject<'t, 'a> {
-    /// The bytes of the image that it is for.
-    image: &'t [u8],
-    /// The path of the script, and its bytes.
-    path: &'a str,
-    script: &'t [u8],
-    part: Part<'t>,
-    /// How often instructions ran in the scripts before it.
-    coverage: Coverage,
-}
-
-impl<'t, 'a> Subject<'t, 'a> {
-    /// A script that is a whole file.
-    fn of_file(image: &'t [u8], path: &'a str, script: &'t [u8], coverage: Coverage) -> Self {
-        Subject {
-            image,
-            path,
-            script,
-            part: whole(script),
-            coverage,
-        }
-    }
-}
-
-/// Runs a test script on a kernel of whose VM file no block is locked.
-fn test_on<'a, D: Device + Drop>(
-    rt: &HostRuntime,
-    test: Subject<'_, 'a>,
-    kernel: &mut Kernel<D>,
-) -> Result<Tested, RunFault<'a>>
-    requires { NoneLocked kernel.old.core.blocks }
-{
-    let Subject {
-        image,
-        path,
-        script,
-        part,
-        coverage,
-    } = test;
-    let alloc = rt.alloc();
-    let Ok(path) = printed_path(alloc, path) else {
-        return Err(RunFault::Session(ScriptFault::Memory));
-    };
-    let script = TestScript {
-        path: &path,
-        image,
-        bytes: script,
-        names: NameUse::Allowed,
-        part,
-    };
-    Ok(test_script(alloc, &script, coverage, kernel)?)
-}
-
-/// Runs it on a new VM file in memory, with so many bytes for blocks in memory.
-fn test_in_memory<'a>(
-    rt: &HostRuntime,
-    test: Subject<'_, 'a>,
-    region: u32,
-) -> Result<Tested, RunFault<'a>>
-    requires { IsRegion region }
-{
-    match kernel_in_memory(rt.alloc(), region) {
-        Ok(mut kernel) => test_on(rt, test, &mut kernel),
-        Err(_) => Err(RunFault::Session(ScriptFault::Memory)),
-    }
-}
-
-/// Runs it on a VM file in memory.
-fn test_on_copy<'a>(
-    rt: &HostRuntime,
-    test: Subject<'_, 'a>,
-    region: u32,
-    file: VmFile<MemoryDevice>,
-) -> Result<Tested, RunFault<'a>>
-    requires { IsRegion region }
-{
-    match Kernel::new(rt.alloc(), region, file) {
-        Ok(mut kernel) => test_on(rt, test, &mut kernel),
-        Err(_) => Err(RunFault::Session(ScriptFault::Memory)),
-    }
-}
-
-/// Runs a test script on a copy of a VM file, or on a new one.
-fn test_one<'a>(
-    rt: &HostRuntime,
-    test: Subject<'_, 'a>,
-    copied: &Option<Contents<'a>>,
-    region: u32,
-) -> Result<Tested, RunFault<'a>>
-    requires { IsRegion region }
-{
-    match copied {
-        Some(copied) => {
-            let file = copied.file(rt.alloc())?;
-            test_on_copy(rt, test, region, file)
-        }
-        None => test_in_memory(rt, test, region),
     }
 }
 
@@ -204,17 +109,109 @@ fn keep_script<'a>(
     }
 }
 
-/// Writes the suites of JUnit XML to the path `out`.
-fn write_suites<'a>(
-    rt: &HostRuntime,
-    out: &'a str,
-    mut suites: Text,
-    image: &str,
-) -> Result<(), RunFault<'a>> {
-    suites.put("</testsuites>\n");
-    match suites.finish() {
-        Ok(suites) => Ok(write(rt, out, &suites, image)?),
-        Err(_) => Err(RunFault::Session(ScriptFault::Memory)),
+/// A test script of a file.
+#[derive(Drop)]
+struct ScriptFile {
+    /// Its path, as it is printed.
+    path: String,
+    bytes: Vec<u8>,
+}
+
+impl ScriptFile {
+    /// That with the path. A fault if it is the file with the path `out`.
+    fn read<'a>(
+        rt: &HostRuntime,
+        path: &'a str,
+        out: Option<&'a str>,
+    ) -> Result<ScriptFile, RunFault<'a>> {
+        if let Err(fault) = keep_script(rt, out, path) {
+            return Err(fault);
+        }
+        let bytes = match read(rt, path, MOST_READ) {
+            Ok(bytes) => bytes,
+            Err(fault) => return Err(RunFault::Stream(fault)),
+        };
+        match printed_path(rt.alloc(), path) {
+            Ok(path) => Ok(ScriptFile { path, bytes }),
+            Err(_) => Err(RunFault::Session(ScriptFault::Memory)),
+        }
+    }
+
+    /// The script, for an image of these bytes.
+    fn script<'s>(&'s self, image: &'s [u8]) -> TestScript<'s> {
+        TestScript {
+            path: &self.path,
+            image,
+            bytes: &self.bytes,
+            names: NameUse::Allowed,
+            part: whole(&self.bytes),
+        }
+    }
+}
+
+/// Runs a test script on a kernel of whose VM file no block is locked.
+fn test_on<D: Device + Drop>(
+    alloc: Global,
+    script: &TestScript<'_>,
+    coverage: Coverage,
+    kernel: &mut Kernel<D>,
+) -> Result<Tested, ScriptFault>
+    requires { NoneLocked kernel.old.core.blocks }
+{
+    test_script(alloc, script, coverage, kernel)
+}
+
+/// Runs it on a new VM file in memory, with so many bytes for blocks in memory.
+fn test_in_memory(
+    alloc: Global,
+    script: &TestScript<'_>,
+    coverage: Coverage,
+    region: u32,
+) -> Result<Tested, ScriptFault>
+    requires { IsRegion region }
+{
+    match kernel_in_memory(alloc, region) {
+        Ok(mut kernel) => test_on(alloc, script, coverage, &mut kernel),
+        Err(_) => Err(ScriptFault::Memory),
+    }
+}
+
+/// Runs it on a VM file in memory.
+fn test_on_copy(
+    alloc: Global,
+    script: &TestScript<'_>,
+    coverage: Coverage,
+    region: u32,
+    file: VmFile<MemoryDevice>,
+) -> Result<Tested, ScriptFault>
+    requires { IsRegion region }
+{
+    match Kernel::new(alloc, region, file) {
+        Ok(mut kernel) => test_on(alloc, script, coverage, &mut kernel),
+        Err(_) => Err(ScriptFault::Memory),
+    }
+}
+
+/// Runs a test script on a copy of a VM file, or on a new one.
+fn test_one<'a>(
+    alloc: Global,
+    script: &TestScript<'_>,
+    coverage: Coverage,
+    copied: &Option<Contents<'a>>,
+    region: u32,
+) -> Result<Tested, RunFault<'a>>
+    requires { IsRegion region }
+{
+    let tested = match copied {
+        None => test_in_memory(alloc, script, coverage, region),
+        Some(copied) => match copied.file(alloc) {
+            Ok(file) => test_on_copy(alloc, script, coverage, region, file),
+            Err(error) => return Err(RunFault::File(FileFault::Open(copied.path, error))),
+        },
+    };
+    match tested {
+        Ok(tested) => Ok(tested),
+        Err(fault) => Err(RunFault::Session(fault)),
     }
 }
 
@@ -270,16 +267,78 @@ impl Results {
     fn run<'a>(
         &mut self,
         rt: &HostRuntime,
-        test: Subject<'_, 'a>,
+        script: &TestScript<'_>,
         copied: &Option<Contents<'a>>,
         region: u32,
     ) -> Result<(), RunFault<'a>>
         requires { IsRegion region }
     {
-        let tested = test_one(rt, test, copied, region)?;
-        print_lines(rt, &tested.told)?;
+        let coverage = self.coverage.take(rt.alloc());
+        let tested = match test_one(rt.alloc(), script, coverage, copied, region) {
+            Ok(tested) => tested,
+            Err(fault) => return Err(fault),
+        };
+        if let Err(fault) = print_lines(rt, &tested.told) {
+            return Err(RunFault::Stream(fault));
+        }
         self.add(tested);
         Ok(())
+    }
+
+    /// Runs the tests of a source.
+    fn run_own<'a>(
+        &mut self,
+        rt: &HostRuntime,
+        testable: &Testable<'_>,
+        request: &TestRequest<'a>,
+        copied: &Option<Contents<'a>>,
+    ) -> Result<(), RunFault<'a>>
+        requires { IsRegion request.now.region }
+    {
+        let Ok(path) = printed_path(rt.alloc(), request.image) else {
+            return Err(RunFault::Session(ScriptFault::Memory));
+        };
+        for test in testable.tests {
+            let script = TestScript {
+                path: &path,
+                image: testable.image,
+                bytes: test.script,
+                names: NameUse::Allowed,
+                part: test.part,
+            };
+            self.run(rt, &script, copied, request.region)?;
+        }
+        Ok(())
+    }
+
+    /// The suites as a file of JUnit XML, if there is memory for it.
+    fn suites(self) -> Result<Vec<u8>, AllocError> {
+        let mut suites = self.suites;
+        suites.put("</testsuites>\n");
+        suites.finish()
+    }
+
+    /// How many lines passed and failed, in a line.
+    fn counts(&self, alloc: Global) -> Result<Vec<u8>, AllocError> {
+        let mut counts = Text::new(alloc);
+        counts.put_number("", self.passed as u64);
+        counts.put_number(" passed, ", self.failed as u64);
+        counts.put(" failed\n");
+        counts.finish()
+    }
+}
+
+/// The bytes of the VM file with the path, if there is one.
+fn copied_of<'a>(
+    rt: &HostRuntime,
+    file: Option<&'a str>,
+) -> Result<Option<Contents<'a>>, RunFault<'a>> {
+    match file {
+        Some(path) => match Contents::of_file(rt, path) {
+            Ok(copied) => Ok(Some(copied)),
+            Err(fault) => Err(fault),
+        },
+        None => Ok(None),
     }
 }
 
@@ -291,28 +350,16 @@ fn test_all<'a>(
 ) -> Result<Results, RunFault<'a>>
     requires { IsRegion request.now.region }
 {
-    let image = testable.image;
-    let copied = match request.file {
-        Some(path) => Some(Contents::of_file(rt, path)?),
-        None => None,
+    let copied = copied_of(rt, request.file)?;
+    let mut results = match Results::new(rt.alloc(), request.coverage) {
+        Ok(results) => results,
+        Err(fault) => return Err(RunFault::Session(fault)),
     };
-    let mut results = Results::new(rt.alloc(), request.coverage)?;
-    for test in testable.tests {
-        let test = Subject {
-            image,
-            path: request.image,
-            script: test.script,
-            part: test.part,
-            coverage: results.coverage.take(rt.alloc()),
-        };
-        results.run(rt, test, &copied, request.region)?;
-    }
+    results.run_own(rt, testable, request, &copied)?;
     for path in &request.scripts {
-        keep_script(rt, request.junit, *path)?;
-        let script = Contents::of_script(rt, *path)?;
-        let coverage = results.coverage.take(rt.alloc());
-        let test = Subject::of_file(image, *path, &script.bytes, coverage);
-        results.run(rt, test, &copied, request.region)?;
+        let file = ScriptFile::read(rt, *path, request.junit)?;
+        let script = file.script(testable.image);
+        results.run(rt, &script, &copied, request.region)?;
     }
     Ok(results)
 }
@@ -323,9 +370,35 @@ fn print_coverage<'a>(
     testable: &Testable<'_>,
     coverage: &Coverage,
 ) -> Result<(), RunFault<'a>> {
-    match coverage_text(rt.alloc(), testable, coverage) {
-        Ok(text) => Ok(print_lines(rt, &text)?),
-        Err(error) => Err(RunFault::Session(ScriptFault::from(error))),
+    let text = match coverage_text(rt.alloc(), testable, coverage) {
+        Ok(text) => text,
+        Err(error) => return Err(RunFault::Session(ScriptFault::from(error))),
+    };
+    match print_lines(rt, &text) {
+        Ok(()) => Ok(()),
+        Err(fault) => Err(RunFault::Stream(fault)),
+    }
+}
+
+/// Prints what test scripts came to: if required, how often each line of the text ran, and then how many lines passed and failed. Writes JUnit XML
+/// if a path is given for it.
+fn report_results<'a>(
+    rt: &HostRuntime,
+    testable: &Testable<'_>,
+    request: &TestRequest<'a>,
+    results: Results,
+) -> Result<(), RunFault<'a>> {
+    if request.coverage
+        && let Err(fault) = print_coverage(rt, testable, &results.coverage)
+    {
+        return Err(fault);
+    }
+    if let Err(fault) = print_made(rt, results.counts(rt.alloc())) {
+        return Err(fault);
+    }
+    match request.junit {
+        Some(out) => write_made(rt, out, results.suites(), request.image),
+        None => Ok(()),
     }
 }
 
@@ -344,22 +417,13 @@ pub fn test<'a>(
     if testable.tests.is_empty() && request.scripts.is_empty() {
         return Err(RunFault::NoTests);
     }
-    let Results {
-        passed,
-        failed,
-        is_bad,
-        suites,
-        coverage,
-    } = test_all(rt, testable, request)?;
-    if request.coverage {
-        print_coverage(rt, testable, &coverage)?;
+    let results = match test_all(rt, testable, request) {
+        Ok(results) => results,
+        Err(fault) => return Err(fault),
+    };
+    let all_passed = results.failed == 0 && !results.is_bad;
+    match report_results(rt, testable, request, results) {
+        Ok(()) => Ok(all_passed),
+        Err(fault) => Err(fault),
     }
-    match format!(in rt.alloc(); "{passed} passed, {failed} failed\n") {
-        Ok(ending) => print(rt, ending.as_bytes())?,
-        Err(_) => return Err(RunFault::Session(ScriptFault::Memory)),
-    }
-    if let Some(out) = request.junit {
-        write_suites(rt, out, suites, request.image)?;
-    }
-    Ok(failed == 0 && !is_bad)
 }
