@@ -153,22 +153,22 @@ impl Script<'_> {
         told.finish()
     }
 
-    /// The fault of the script, with diagnostics if lines of it are bad and these are required.
+    /// What the script came to, with diagnostics if lines of it are bad and these are required.
     pub(crate) fn diagnosed<'a>(
         &self,
         alloc: Global,
         manner: &Manner,
-        fault: RunFault<'a>,
-    ) -> RunFault<'a> {
-        match fault {
-            RunFault::Session(ScriptFault::BadScript(line)) if manner.reports.diagnostics => {
+        ran: Result<(), RunFault<'a>>,
+    ) -> Result<(), RunFault<'a>> {
+        match ran {
+            Err(RunFault::Session(ScriptFault::BadScript(line))) if manner.reports.diagnostics => {
                 let told = match self.diagnostics(alloc, manner, line) {
                     Ok(told) => told,
                     Err(_) => Vec::new(alloc),
                 };
-                RunFault::BadLines(ScriptFault::BadScript(line), told)
+                Err(RunFault::BadLines(ScriptFault::BadScript(line), told))
             }
-            fault => fault,
+            ran => ran,
         }
     }
 }

@@ -1,49 +1,54 @@
-//! One routine, or a script, is run with a text or an image: on a VM file of the system, or on one in memory.
+//! What is done on a kernel: on that of a VM file of the system, or of one in memory.
 
 ghost use Rattle.vm_blocks.specs.Listed.{NoneLocked};
 ghost use Rattle.geos_shell.specs.Limits.{IsRegion};
 
 use crate::MOST_READ;
 use crate::bad_lines::Script;
-use crate::comparing::compare_script_on;
+use crate::chunks::{put_on, read_for};
+use crate::comparing::run_script;
 use crate::ending::ended;
 use crate::fault::RunFault;
-use crate::manner::{Manner, run_call_on, run_script_on};
+use crate::manner::{Manner, run_call_on};
+use crate::tracing::{Traceable, trace_on};
 use geos_cli::ScriptFault;
 use geos_files::{Locked, opened, wait_for};
 use geos_kernel::{Kernel, kernel_in_memory};
-use geos_shell::{CallWords, Lockable, STANDARD, Sharing, read};
-use script_tests::plain_script;
+use geos_shell::{
+    CallWords, Lockable, PutRequest, Room, STANDARD, Sharing, StreamFault, TraceWords, read,
+};
 use vm_file::{Device, FileDevice, VmFile};
 
-/// What is run.
-#[derive(Drop)]
-pub(crate) enum Work<'a> {
-    /// A call.
-    Call(CallWords<'a>),
-    /// The script of a path.
-    Script(&'a str, Vec<u8>),
-}
-
-/// What is run with the routines of an image, and how.
-#[derive(Drop)]
-pub(crate) struct Job<'j, 'a> {
-    pub(crate) manner: &'j Manner,
+/// The routines of an image, and how they run.
+#[derive(Clone, Copy)]
+pub(crate) struct Routines<'r> {
+    pub(crate) manner: &'r Manner,
     /// The bytes of the image.
-    pub(crate) image: &'j [u8],
-    pub(crate) work: Work<'a>,
+    pub(crate) image: &'r [u8],
 }
 
-/// What is run: the call, or if there is none, the script on the standard input.
-fn work_of<'a>(rt: &HostRuntime, call: Option<CallWords<'a>>) -> Result<Work<'a>, RunFault<'a>> {
-    match call {
-        Some(call) => Ok(Work::Call(call)),
-        None => Ok(Work::Script(STANDARD, read(rt, STANDARD, MOST_READ)?)),
-    }
+/// What is done on a kernel.
+#[derive(Clone, Copy)]
+pub(crate) enum Task<'t, 'a> {
+    /// A routine is called.
+    Call(Routines<'t>, &'t CallWords<'a>),
+    /// The script with the path runs.
+    Script(Routines<'t>, &'a str),
+    /// A call is traced.
+    Trace(&'t TraceWords<'a>, &'t Traceable<'t>),
+    /// A chunk is written.
+    Put(&'t PutRequest<'a>),
+}
+
+/// A task, and the bytes that were read for it.
+#[derive(Clone, Copy)]
+struct Job<'j, 'a> {
+    task: Task<'j, 'a>,
+    input: &'j [u8],
 }
 
 impl<'a> Job<'_, 'a> {
-    /// Runs it on a kernel of whose VM file no block is locked.
+    /// Does it on a kernel of whose VM file no block is locked.
     fn run<D: Device + Drop>(
         &self,
         rt: &HostRuntime,
@@ -51,58 +56,25 @@ impl<'a> Job<'_, 'a> {
     ) -> Result<(), RunFault<'a>>
         requires { NoneLocked kernel.old.core.blocks }
     {
-        kernel.limit(self.manner.room.bytes);
-        kernel.limit_handles(self.manner.room.handles);
-        match &self.work {
-            Work::Call(call) => run_call_on(rt, self.manner, self.image, call, kernel),
-            Work::Script(path, bytes) if self.manner.expects => {
-                self.compare(rt, path, bytes, kernel)
+        let room = self.task.room();
+        kernel.limit(room.bytes);
+        kernel.limit_handles(room.handles);
+        match &self.task {
+            Task::Call(routines, call) => run_call_on(rt, routines, *call, kernel),
+            Task::Script(routines, path) => {
+                let script = Script {
+                    path: *path,
+                    bytes: self.input,
+                    image: routines.image,
+                };
+                run_script(rt, routines.manner, &script, kernel)
             }
-            Work::Script(path, bytes) => {
-                self.script(path, bytes).warn(rt, self.manner);
-                match run_script_on(rt, self.manner, self.image, bytes, kernel) {
-                    Ok(()) => Ok(()),
-                    // What is wrong with its bad lines, if that is required.
-                    Err(fault) => {
-                        let script = self.script(path, bytes);
-                        Err(script.diagnosed(rt.alloc(), self.manner, fault))
-                    }
-                }
-            }
+            Task::Trace(words, traceable) => trace_on(rt, *words, *traceable, kernel),
+            Task::Put(request) => put_on(rt, *request, self.input, kernel),
         }
     }
 
-    /// Runs a script of this path, and compares what it prints.
-    fn compare<D: Device + Drop>(
-        &self,
-        rt: &HostRuntime,
-        path: &str,
-        bytes: &[u8],
-        kernel: &mut Kernel<D>,
-    ) -> Result<(), RunFault<'a>>
-        requires { NoneLocked kernel.old.core.blocks }
-    {
-        let Ok(plain) = plain_script(rt.alloc(), bytes) else {
-            return Err(RunFault::Session(ScriptFault::Memory));
-        };
-        let commands = self.script(path, &plain);
-        commands.warn(rt, self.manner);
-        match compare_script_on(rt, self.manner, &self.script(path, bytes), kernel) {
-            Ok(()) => Ok(()),
-            Err(fault) => Err(commands.diagnosed(rt.alloc(), self.manner, fault)),
-        }
-    }
-
-    /// The script of a path.
-    fn script<'s>(&'s self, path: &'s str, bytes: &'s [u8]) -> Script<'s> {
-        Script {
-            path,
-            bytes,
-            image: self.image,
-        }
-    }
-
-    /// Runs it on a new VM file in memory, with so many bytes for blocks in memory.
+    /// Does it on a new VM file in memory, with so many bytes for blocks in memory.
     fn run_in_memory(&self, rt: &HostRuntime, region: u32) -> Result<(), RunFault<'a>>
         requires { IsRegion region }
     {
@@ -112,8 +84,8 @@ impl<'a> Job<'_, 'a> {
         }
     }
 
-    /// Runs it on the open VM file with the path, with so many bytes for blocks in memory.
-    pub(crate) fn run_on(
+    /// Does it on the open VM file with the path, with so many bytes for blocks in memory.
+    fn run_on(
         &self,
         rt: &HostRuntime,
         path: &str,
@@ -126,35 +98,119 @@ impl<'a> Job<'_, 'a> {
             return Err(RunFault::Session(ScriptFault::Memory));
         };
         let done = self.run(rt, &mut kernel);
-        ended(rt, self.manner, path, &mut kernel, done)
+        match self.task.manner() {
+            Some(manner) => ended(rt, manner, path, &mut kernel, done),
+            None => done,
+        }
     }
 }
 
-/// Runs it on the VM file with the path. It waits for the file's lock after it has read the script, as `run` does.
-fn work_on_file<'a>(
-    rt: &HostRuntime,
-    manner: &Manner,
-    image: &[u8],
-    path: &'a str,
-    call: Option<CallWords<'a>>,
-    region: u32,
-) -> Result<(), RunFault<'a>>
-    requires { IsRegion region }
-{
-    let file = Lockable::open(rt, path, Sharing::Alone)?;
-    let work = work_of(rt, call);
-    let Locked {
-        device,
-        lock: _lock,
-    } = wait_for(rt, file)?;
-    let file = opened(rt, path, device)?;
-    let work = work?;
-    Job {
-        manner,
-        image,
-        work,
+impl<'t, 'a> Task<'t, 'a> {
+    /// How its routines run, if what they change may be committed at the end.
+    fn manner(&self) -> Option<&'t Manner> {
+        match self {
+            Task::Call(routines, _) | Task::Script(routines, _) => Some(routines.manner),
+            Task::Trace(_, _) | Task::Put(_) => None,
+        }
     }
-    .run_on(rt, path, region, file)
+
+    /// What blocks in memory may take. What is put has no limit.
+    fn room(&self) -> Room {
+        match self {
+            Task::Call(routines, _) | Task::Script(routines, _) => routines.manner.room,
+            Task::Trace(_, traceable) => traceable.room,
+            Task::Put(_) => Room {
+                bytes: u32::MAX,
+                handles: 1_024,
+            },
+        }
+    }
+
+    /// The bytes of the script, or what is put.
+    fn read(&self, rt: &HostRuntime) -> Result<Vec<u8>, StreamFault<'a>> {
+        match self {
+            Task::Call(_, _) | Task::Trace(_, _) => Ok(Vec::new(rt.alloc())),
+            Task::Script(_, path) => read(rt, *path, MOST_READ),
+            Task::Put(request) => read_for(rt, *request),
+        }
+    }
+
+    /// Does it on a new VM file in memory, with so many bytes for blocks in memory.
+    fn run_in_memory(&self, rt: &HostRuntime, region: u32) -> Result<(), RunFault<'a>>
+        requires { IsRegion region }
+    {
+        match self.read(rt) {
+            Ok(input) => Job {
+                task: *self,
+                input: &input,
+            }
+            .run_in_memory(rt, region),
+            Err(fault) => Err(RunFault::Stream(fault)),
+        }
+    }
+
+    /// Does it on a VM file that is open. It waits for the file's lock after it has read what it needs. So it keeps the file from nobody
+    /// who is still writing that. It reads the file under the lock, and reports a fault of the file before a fault of what was read.
+    fn run_alone(
+        &self,
+        rt: &HostRuntime,
+        path: &'a str,
+        region: u32,
+        file: Lockable<'a>,
+    ) -> Result<(), RunFault<'a>>
+        requires { IsRegion region }
+    {
+        let input = self.read(rt);
+        let Locked {
+            device,
+            lock: _lock,
+        } = match wait_for(rt, file) {
+            Ok(locked) => locked,
+            Err(fault) => return Err(RunFault::Stream(fault)),
+        };
+        let file = match opened(rt, path, device) {
+            Ok(file) => file,
+            Err(fault) => return Err(RunFault::File(fault)),
+        };
+        match input {
+            Ok(input) => Job {
+                task: *self,
+                input: &input,
+            }
+            .run_on(rt, path, region, file),
+            Err(fault) => Err(RunFault::Stream(fault)),
+        }
+    }
+
+    /// Does it on the VM file with the path, with so many bytes for blocks in memory.
+    pub(crate) fn run_on_file(
+        &self,
+        rt: &HostRuntime,
+        path: &'a str,
+        region: u32,
+    ) -> Result<(), RunFault<'a>>
+        requires { IsRegion region }
+    {
+        match Lockable::open(rt, path, Sharing::Alone) {
+            Ok(file) => self.run_alone(rt, path, region, file),
+            Err(fault) => Err(RunFault::Stream(fault)),
+        }
+    }
+
+    /// Does it on the VM file with the path, or without a path on a new one in memory.
+    pub(crate) fn run(
+        &self,
+        rt: &HostRuntime,
+        file: Option<&'a str>,
+        region: u32,
+    ) -> Result<(), RunFault<'a>>
+        requires { IsRegion region }
+    {
+        match file {
+            Some(path) => self.run_on_file(rt, path, region),
+            None => self.run_in_memory(rt, region),
+        }
+    }
 }
 
 /// Runs one call of the routines of an image; without a call it reads the standard input and runs that script. It runs on the VM file with
@@ -169,16 +225,9 @@ pub fn call<'a>(
 ) -> Result<(), RunFault<'a>>
     requires { IsRegion region }
 {
-    match file {
-        Some(path) => work_on_file(rt, manner, image, path, call, region),
-        None => {
-            let work = work_of(rt, call)?;
-            Job {
-                manner,
-                image,
-                work,
-            }
-            .run_in_memory(rt, region)
-        }
+    let routines = Routines { manner, image };
+    match &call {
+        Some(call) => Task::Call(routines, call).run(rt, file, region),
+        None => Task::Script(routines, STANDARD).run(rt, file, region),
     }
 }

@@ -3,15 +3,16 @@
 ghost use Rattle.vm_blocks.specs.Listed.{NoneLocked};
 ghost use Rattle.geos_shell.specs.Limits.{IsRegion};
 
+use crate::calling::Task;
 use crate::fault::RunFault;
 use crate::making::made;
+use crate::printing::{print_bytes, print_made};
 use array_rows::{ArrayFault, rows_of, with_rows};
 use geos_cli::{Place, ScriptFault, get_bytes, put_bytes};
-use geos_files::{Locked, lock_to_read, opened, wait_for};
+use geos_files::{Locked, lock_to_read, opened};
 use geos_kernel::Kernel;
-use geos_shell::{
-    ChunkPath, GetRequest, Lockable, PutRequest, Rows, STANDARD, Sharing, print, read,
-};
+use geos_shell::{ChunkPath, GetRequest, New, PutRequest, Rows, STANDARD, StreamFault, read};
+use sentence_text::Text;
 use std::alloc::Global;
 use vm_file::{Device, FileDevice, VmFile};
 
@@ -32,11 +33,11 @@ fn place_of(chunk: &ChunkPath<'_>) -> Place {
 
 /// Prints the handles of a chunk that was made.
 fn print_handles<'a>(rt: &HostRuntime, chunk: &ChunkPath<'_>) -> Result<(), RunFault<'a>> {
-    let ChunkPath { handle, chunk, .. } = chunk;
-    match format!(in rt.alloc(); "{handle} {chunk}\n") {
-        Ok(handles) => Ok(print(rt, handles.as_bytes())?),
-        Err(_) => Err(RunFault::Session(ScriptFault::Memory)),
-    }
+    let mut handles = Text::new(rt.alloc());
+    handles.put_number("", u64::from(chunk.handle));
+    handles.put_number(" ", u64::from(chunk.chunk));
+    handles.put("\n");
+    print_made(rt, handles.finish())
 }
 
 /// The word that names the fields of rows.
@@ -79,15 +80,67 @@ fn array_put<'a, D: Device + Drop>(
     if text.len() as u64 == MOST_ROWS {
         return Err(RunFault::LongRows(rows.path));
     }
-    let old = get_in(alloc, place_of(chunk), kernel)?;
-    match with_rows(alloc, &old, fields_of(rows), text) {
-        Ok(new) => Ok(new),
-        Err(fault) => Err(array_fault(chunk, rows, fault)),
+    match get_in(alloc, place_of(chunk), kernel) {
+        Ok(old) => match with_rows(alloc, &old, fields_of(rows), text) {
+            Ok(new) => Ok(new),
+            Err(fault) => Err(array_fault(chunk, rows, fault)),
+        },
+        Err(fault) => Err(fault),
+    }
+}
+
+/// Writes bytes into a chunk, and updates the file.
+fn put_in<'a, D: Device + Drop>(
+    chunk: &ChunkPath<'_>,
+    at: Option<u16>,
+    bytes: &[u8],
+    kernel: &mut Kernel<D>,
+) -> Result<(), RunFault<'a>> {
+    match put_bytes(kernel, place_of(chunk), at, bytes) {
+        Ok(()) => Ok(()),
+        Err(refusal) => Err(RunFault::NotDone(refusal.number())),
+    }
+}
+
+/// Writes bytes into a chunk, or elements that are made of rows, and updates the file.
+fn put_into<'a, D: Device + Drop>(
+    alloc: Global,
+    request: &PutRequest<'a>,
+    chunk: &ChunkPath<'a>,
+    bytes: &[u8],
+    kernel: &mut Kernel<D>,
+) -> Result<(), RunFault<'a>> {
+    let Some(rows) = &request.array else {
+        return put_in(chunk, request.at, bytes, kernel);
+    };
+    match array_put(alloc, chunk, rows, bytes, kernel) {
+        Ok(bytes) => put_in(chunk, request.at, &bytes, kernel),
+        Err(fault) => Err(fault),
+    }
+}
+
+/// Makes a chunk, writes bytes into it, and updates the file. Prints the handles of what was made.
+fn put_into_new<'a, D: Device + Drop>(
+    rt: &HostRuntime,
+    request: &PutRequest<'a>,
+    new: New,
+    bytes: &[u8],
+    kernel: &mut Kernel<D>,
+) -> Result<(), RunFault<'a>>
+    requires { NoneLocked kernel.old.core.blocks }
+{
+    let chunk = match made(rt.alloc(), request.chunk.file, new, kernel) {
+        Ok(chunk) => chunk,
+        Err(fault) => return Err(fault),
+    };
+    match put_into(rt.alloc(), request, &chunk, bytes, kernel) {
+        Ok(()) => print_handles(rt, &chunk),
+        Err(fault) => Err(fault),
     }
 }
 
 /// Writes bytes into a chunk, which is made if that is required, and updates the file.
-fn put_on<'a, D: Device + Drop>(
+pub(crate) fn put_on<'a, D: Device + Drop>(
     rt: &HostRuntime,
     request: &PutRequest<'a>,
     bytes: &[u8],
@@ -95,37 +148,20 @@ fn put_on<'a, D: Device + Drop>(
 ) -> Result<(), RunFault<'a>>
     requires { NoneLocked kernel.old.core.blocks }
 {
-    let chunk = match request.new {
-        Some(new) => made(rt.alloc(), request.chunk.file, new, kernel)?,
-        None => request.chunk,
-    };
-    let array = match &request.array {
-        Some(rows) => Some(array_put(rt.alloc(), &chunk, rows, bytes, kernel)?),
-        None => None,
-    };
-    let bytes = match &array {
-        Some(array) => array.as_slice(),
-        None => bytes,
-    };
-    match put_bytes(kernel, place_of(&chunk), request.at, bytes) {
-        Ok(()) if request.new.is_some() => print_handles(rt, &chunk),
-        Ok(()) => Ok(()),
-        Err(refusal) => Err(RunFault::NotDone(refusal.number())),
+    match request.new {
+        Some(new) => put_into_new(rt, request, new, bytes, kernel),
+        None => put_into(rt.alloc(), request, &request.chunk, bytes, kernel),
     }
 }
 
-/// Writes bytes into a chunk of an open VM file, and updates the file.
-fn put_in<'a>(
+/// What is put: the standard input, or an array of rows.
+pub(crate) fn read_for<'a>(
     rt: &HostRuntime,
     request: &PutRequest<'a>,
-    bytes: &[u8],
-    file: VmFile<FileDevice>,
-) -> Result<(), RunFault<'a>>
-    requires { IsRegion request.now.region }
-{
-    match Kernel::new(rt.alloc(), request.region, file) {
-        Ok(mut kernel) => put_on(rt, request, bytes, &mut kernel),
-        Err(_) => Err(RunFault::Session(ScriptFault::Memory)),
+) -> Result<Vec<u8>, StreamFault<'a>> {
+    match request.array {
+        Some(rows) => read(rt, rows.path, MOST_ROWS),
+        None => read(rt, STANDARD, MOST_PUT),
     }
 }
 
@@ -135,19 +171,7 @@ fn put_in<'a>(
 pub fn put<'a>(rt: &HostRuntime, request: &PutRequest<'a>) -> Result<(), RunFault<'a>>
     requires { IsRegion request.now.region }
 {
-    let path = request.chunk.file;
-    let file = Lockable::open(rt, path, Sharing::Alone)?;
-    let bytes = match request.array {
-        Some(rows) => read(rt, rows.path, MOST_ROWS),
-        None => read(rt, STANDARD, MOST_PUT),
-    };
-    let Locked {
-        device,
-        lock: _lock,
-    } = wait_for(rt, file)?;
-    let file = opened(rt, path, device)?;
-    let bytes = bytes?;
-    put_in(rt, request, &bytes, file)
+    Task::Put(request).run_on_file(rt, request.chunk.file, request.region)
 }
 
 /// The bytes of a chunk of an open VM file.
@@ -176,9 +200,14 @@ fn bytes_of<'a>(
     let Locked {
         device,
         lock: _lock,
-    } = lock_to_read(rt, chunk.file)?;
-    let file = opened(rt, chunk.file, device)?;
-    bytes_in(rt, place_of(chunk), region, file)
+    } = match lock_to_read(rt, chunk.file) {
+        Ok(locked) => locked,
+        Err(fault) => return Err(RunFault::Stream(fault)),
+    };
+    match opened(rt, chunk.file, device) {
+        Ok(file) => bytes_in(rt, place_of(chunk), region, file),
+        Err(fault) => Err(RunFault::File(fault)),
+    }
 }
 
 /// Prints the elements of an array of these bytes as rows.
@@ -190,7 +219,7 @@ fn print_rows<'a>(
     json: bool,
 ) -> Result<(), RunFault<'a>> {
     match rows_of(rt.alloc(), bytes, fields_of(rows), json) {
-        Ok(rows) => Ok(print(rt, &rows)?),
+        Ok(rows) => print_bytes(rt, &rows),
         Err(fault) => Err(array_fault(chunk, rows, fault)),
     }
 }
@@ -201,9 +230,12 @@ pub fn get<'a>(rt: &HostRuntime, request: &GetRequest<'a>, json: bool) -> Result
     requires { IsRegion request.now.region }
 {
     let chunk = &request.chunk;
-    let bytes = bytes_of(rt, chunk, request.region)?;
+    let bytes = match bytes_of(rt, chunk, request.region) {
+        Ok(bytes) => bytes,
+        Err(fault) => return Err(fault),
+    };
     match &request.array {
         Some(rows) => print_rows(rt, chunk, rows, &bytes, json),
-        None => Ok(print(rt, &bytes)?),
+        None => print_bytes(rt, &bytes),
     }
 }

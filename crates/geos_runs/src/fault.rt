@@ -53,7 +53,7 @@ pub enum RunFault<'a> {
     TooManyNumbers,
 }
 
-/// What stands between words of a message.
+/// What follows words of a message.
 #[derive(Clone, Copy)]
 enum Item<'a> {
     Nothing,
@@ -190,24 +190,6 @@ impl fmt::Debug for RunFault<'_> {
 }
 
 impl Error for RunFault<'_> {}
-
-impl<'a> From<StreamFault<'a>> for RunFault<'a> {
-    fn from(fault: StreamFault<'a>) -> RunFault<'a> {
-        RunFault::Stream(fault)
-    }
-}
-
-impl<'a> From<FileFault<'a>> for RunFault<'a> {
-    fn from(fault: FileFault<'a>) -> RunFault<'a> {
-        RunFault::File(fault)
-    }
-}
-
-impl<'a> From<ScriptFault> for RunFault<'a> {
-    fn from(fault: ScriptFault) -> RunFault<'a> {
-        RunFault::Session(fault)
-    }
-}
 
 impl Diagnosed for RunFault<'_> {
     fn diagnostics(&self, alloc: Global) -> Vec<u8> {

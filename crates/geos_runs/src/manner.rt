@@ -2,13 +2,14 @@
 
 ghost use Rattle.vm_blocks.specs.Listed.{NoneLocked};
 
+use crate::bad_lines::Script;
+use crate::calling::Routines;
 use crate::fault::RunFault;
 use crate::objects::{print_call_objects, print_script_objects};
 use crate::progress::{ProgressLine, is_shown};
 use geos_cli::{
-    CallFault, Counted, EarlyEnd, Form, Mode, RefusedCommand, RunOptions, ScriptFault, Unwatched,
-    Writing, run_call, run_call_in_form, run_script_in_form, run_script_in_mode,
-    run_script_with_names,
+    CallFault, Counted, EarlyEnd, Form, Mode, RefusedCommand, RunOptions, ScriptFault, Writing,
+    run_call, run_call_in_form, run_script_in_form, run_script_in_mode, run_script_with_names,
 };
 use geos_kernel::Kernel;
 use geos_scripts::NameUse;
@@ -62,102 +63,112 @@ fn form_of(form: &OutputForm) -> Form {
     }
 }
 
-/// The options of a run with a follower.
-pub(crate) fn options_of<F>(manner: &Manner, follower: F) -> RunOptions<F> {
+/// The options of a run, which a line on a terminal follows.
+pub(crate) fn options_of<'r>(rt: &'r HostRuntime, manner: &Manner) -> RunOptions<ProgressLine<'r>> {
     RunOptions {
         form: form_of(&manner.form),
         mode: manner.mode,
-        follower,
+        follower: ProgressLine::new(rt),
     }
 }
 
-/// Runs a script with an image on a kernel of whose VM file no block is locked.
+/// Whether outputs are written as they are by default, and nobody looks on.
+fn is_plain(rt: &HostRuntime, manner: &Manner) -> bool {
+    manner.form.is_plain() && !is_shown(rt)
+}
+
+/// Runs a script without names on a kernel of whose VM file no block is locked.
 fn run_script_in<W: Write, D: Device + Drop>(
     rt: &HostRuntime,
     manner: &Manner,
-    image: &[u8],
-    script: &[u8],
+    script: &Script<'_>,
     kernel: &mut Kernel<D>,
     out: &mut Counted<W>,
 ) -> Result<Option<RefusedCommand>, ScriptFault>
     requires { NoneLocked kernel.old.core.blocks }
 {
     let alloc = rt.alloc();
-    if is_shown(rt) {
-        let options = options_of(manner, ProgressLine::new(rt));
-        return run_script_in_form(alloc, options, image, script, kernel, out);
+    if is_plain(rt, manner) {
+        return run_script_in_mode(alloc, manner.mode, script.image, script.bytes, kernel, out);
     }
-    if manner.form.is_plain() {
-        return run_script_in_mode(alloc, manner.mode, image, script, kernel, out);
-    }
-    let options = options_of(manner, Unwatched);
-    run_script_in_form(alloc, options, image, script, kernel, out)
+    let options = options_of(rt, manner);
+    run_script_in_form(alloc, options, script.image, script.bytes, kernel, out)
 }
 
 /// The same of a script whose lines may write names, if they may.
 pub(crate) fn run_lines_in<W: Write, D: Device + Drop>(
     rt: &HostRuntime,
     manner: &Manner,
-    image: &[u8],
-    script: &[u8],
+    script: &Script<'_>,
     kernel: &mut Kernel<D>,
     out: &mut Counted<W>,
 ) -> Result<Option<EarlyEnd>, ScriptFault>
     requires { NoneLocked kernel.old.core.blocks }
 {
     match manner.names {
-        NameUse::Allowed if is_shown(rt) => {
-            let options = options_of(manner, ProgressLine::new(rt));
-            run_script_with_names(rt.alloc(), options, image, script, kernel, out)
-        }
         NameUse::Allowed => {
-            let options = options_of(manner, Unwatched);
-            run_script_with_names(rt.alloc(), options, image, script, kernel, out)
+            let options = options_of(rt, manner);
+            run_script_with_names(rt.alloc(), options, script.image, script.bytes, kernel, out)
         }
-        NameUse::Refused => match run_script_in(rt, manner, image, script, kernel, out)? {
-            None => Ok(None),
-            Some(refused) => Ok(Some(EarlyEnd::Refused(refused))),
+        NameUse::Refused => match run_script_in(rt, manner, script, kernel, out) {
+            Ok(None) => Ok(None),
+            Ok(Some(refused)) => Ok(Some(EarlyEnd::Refused(refused))),
+            Err(fault) => Err(fault),
         },
     }
 }
 
-/// As `run_lines_in`, on standard output. What was printed is out before a line at which the script ended is a fault.
+/// As `run_lines_in`, on standard output. What was printed is out before the end of the script is a fault.
+fn run_lines_on<D: Device + Drop>(
+    rt: &HostRuntime,
+    manner: &Manner,
+    script: &Script<'_>,
+    kernel: &mut Kernel<D>,
+) -> Result<Option<EarlyEnd>, ScriptFault>
+    requires { NoneLocked kernel.old.core.blocks }
+{
+    let mut out = match output(rt) {
+        Ok(out) => out,
+        Err(fault) => return Err(fault),
+    };
+    let end = run_lines_in(rt, manner, script, kernel, &mut out);
+    if end.is_ok() && out.flush().is_err() {
+        return Err(ScriptFault::Write);
+    }
+    end
+}
+
+/// Runs a script on a kernel of whose VM file no block is locked, and prints what it outputs.
 pub(crate) fn run_script_on<'a, D: Device + Drop>(
     rt: &HostRuntime,
     manner: &Manner,
-    image: &[u8],
-    script: &[u8],
+    script: &Script<'_>,
     kernel: &mut Kernel<D>,
 ) -> Result<(), RunFault<'a>>
     requires { NoneLocked kernel.old.core.blocks }
 {
     if manner.reports.json {
-        return print_script_objects(rt, manner, image, script, kernel);
+        return print_script_objects(rt, manner, script, kernel);
     }
-    let mut out = output(rt)?;
-    let end = run_lines_in(rt, manner, image, script, kernel, &mut out)?;
-    if out.flush().is_err() {
-        return Err(RunFault::Session(ScriptFault::Write));
-    }
-    came_to(end)
+    came_to(run_lines_on(rt, manner, script, kernel))
 }
 
-/// The fault of a script that ended at a line.
-pub(crate) fn came_to<'a>(end: Option<EarlyEnd>) -> Result<(), RunFault<'a>> {
+/// What a script came to that ran to its end, or that ended early.
+pub(crate) fn came_to<'a>(end: Result<Option<EarlyEnd>, ScriptFault>) -> Result<(), RunFault<'a>> {
     match end {
-        None => Ok(()),
-        Some(EarlyEnd::Refused(RefusedCommand { line, refusal })) => {
+        Ok(None) => Ok(()),
+        Ok(Some(EarlyEnd::Refused(RefusedCommand { line, refusal }))) => {
             Err(RunFault::Refused(line, refusal.number()))
         }
-        Some(EarlyEnd::BadLine(line)) => Err(RunFault::Session(ScriptFault::BadScript(line))),
+        Ok(Some(EarlyEnd::BadLine(line))) => Err(RunFault::Session(ScriptFault::BadScript(line))),
+        Err(fault) => Err(RunFault::Session(fault)),
     }
 }
 
-/// Runs a call with an image on a kernel of whose VM file no block is locked.
+/// Runs a call on a kernel of whose VM file no block is locked.
 fn run_call_in<W: Write, D: Device + Drop>(
     rt: &HostRuntime,
-    manner: &Manner,
-    image: &[u8],
+    routines: &Routines<'_>,
     call: &CallWords<'_>,
     kernel: &mut Kernel<D>,
     out: &mut Counted<W>,
@@ -166,15 +177,31 @@ fn run_call_in<W: Write, D: Device + Drop>(
 {
     let alloc = rt.alloc();
     let CallWords { name, words } = call;
-    if is_shown(rt) {
-        let options = options_of(manner, ProgressLine::new(rt));
-        return run_call_in_form(alloc, options, image, name, words, kernel, out);
+    if is_plain(rt, routines.manner) {
+        return run_call(alloc, routines.image, name, words, kernel, out);
     }
-    if manner.form.is_plain() {
-        return run_call(alloc, image, name, words, kernel, out);
+    let options = options_of(rt, routines.manner);
+    run_call_in_form(alloc, options, routines.image, name, words, kernel, out)
+}
+
+/// As `run_call_in`, on standard output.
+fn run_call_printing<D: Device + Drop>(
+    rt: &HostRuntime,
+    routines: &Routines<'_>,
+    call: &CallWords<'_>,
+    kernel: &mut Kernel<D>,
+) -> Result<Option<RefusedCommand>, CallFault>
+    requires { NoneLocked kernel.old.core.blocks }
+{
+    let mut out = match output(rt) {
+        Ok(out) => out,
+        Err(fault) => return Err(CallFault::Script(fault)),
+    };
+    let refused = run_call_in(rt, routines, call, kernel, &mut out);
+    if refused.is_ok() && out.flush().is_err() {
+        return Err(CallFault::Script(ScriptFault::Write));
     }
-    let options = options_of(manner, Unwatched);
-    run_call_in_form(alloc, options, image, name, words, kernel, out)
+    refused
 }
 
 /// Whether a word of a call is `@` and a handle.
@@ -214,29 +241,22 @@ pub(crate) fn call_fault<'a>(call: &CallWords<'a>, fault: CallFault) -> RunFault
     }
 }
 
-/// As `run_call_in`, on standard output. `RunFault::NotDone` if a block that the routine borrows can't be lent.
+/// Runs a call on a kernel of whose VM file no block is locked, and prints what it outputs. `RunFault::NotDone` if a block that the routine
+/// borrows can't be lent.
 pub(crate) fn run_call_on<'a, D: Device + Drop>(
     rt: &HostRuntime,
-    manner: &Manner,
-    image: &[u8],
+    routines: &Routines<'_>,
     call: &CallWords<'a>,
     kernel: &mut Kernel<D>,
 ) -> Result<(), RunFault<'a>>
     requires { NoneLocked kernel.old.core.blocks }
 {
-    if manner.reports.json {
-        return print_call_objects(rt, image, call, kernel);
+    if routines.manner.reports.json {
+        return print_call_objects(rt, routines.image, call, kernel);
     }
-    let mut out = output(rt)?;
-    let refused = match run_call_in(rt, manner, image, call, kernel, &mut out) {
-        Ok(refused) => refused,
-        Err(fault) => return Err(call_fault(call, fault)),
-    };
-    match (out.flush(), refused) {
-        (Ok(()), None) => Ok(()),
-        (Ok(()), Some(RefusedCommand { line: _, refusal })) => {
-            Err(RunFault::NotDone(refusal.number()))
-        }
-        (Err(_), _) => Err(RunFault::Session(ScriptFault::Write)),
+    match run_call_printing(rt, routines, call, kernel) {
+        Ok(None) => Ok(()),
+        Ok(Some(refused)) => Err(RunFault::NotDone(refused.refusal.number())),
+        Err(fault) => Err(call_fault(call, fault)),
     }
 }

@@ -2,26 +2,17 @@
 
 ghost use Rattle.vm_blocks.specs.Listed.{NoneLocked};
 
+use crate::bad_lines::Script;
 use crate::fault::RunFault;
-use crate::manner::{Manner, call_fault, came_to, run_lines_in};
-use crate::tracing::budget_of;
-use geos_cli::{Counted, NotedCall, ScriptFault, TraceFault, TracedCall, trace_call};
+use crate::manner::{Manner, came_to, run_lines_in};
+use crate::printing::print_made;
+use crate::tracing::{budget_of, trace_fault};
+use geos_cli::{Counted, NotedCall, TracedCall, trace_call};
 use geos_json::JsonLines;
 use geos_kernel::Kernel;
-use geos_shell::{CallWords, print};
+use geos_shell::CallWords;
 use std::alloc::{AllocError, Global};
 use vm_file::Device;
-
-/// Prints objects.
-fn print_objects<'a>(
-    rt: &HostRuntime,
-    lines: Result<Vec<u8>, AllocError>,
-) -> Result<(), RunFault<'a>> {
-    match lines {
-        Ok(lines) => Ok(print(rt, &lines)?),
-        Err(_) => Err(RunFault::Session(ScriptFault::Memory)),
-    }
-}
 
 /// A word that was output.
 fn put_output(objects: &mut JsonLines, value: u64) {
@@ -83,19 +74,11 @@ pub(crate) fn print_call_objects<'a, D: Device + Drop>(
     requires { NoneLocked kernel.old.core.blocks }
 {
     let alloc = rt.alloc();
-    let unnoted = unnoted_call(image, call);
-    let traced = match trace_call(alloc, &unnoted, kernel) {
-        Ok(traced) => traced,
-        Err(TraceFault::Call(fault)) => return Err(call_fault(call, fault)),
-        Err(TraceFault::NoRoutine) => return Err(RunFault::NoRoutine(call.name)),
-    };
-    print_objects(
-        rt,
-        match traced {
-            Ok(traced) => call_objects(alloc, &traced),
-            Err(refusal) => refused_object(alloc, refusal.number()),
-        },
-    )
+    match trace_call(alloc, &unnoted_call(image, call), kernel) {
+        Ok(Ok(traced)) => print_made(rt, call_objects(alloc, &traced)),
+        Ok(Err(refusal)) => print_made(rt, refused_object(alloc, refusal.number())),
+        Err(fault) => Err(trace_fault(call, None, fault)),
+    }
 }
 
 /// The number that a text is in decimal digits.
@@ -115,21 +98,22 @@ fn objects_of_lines(alloc: Global, printed: &[u8]) -> Result<Vec<u8>, AllocError
     objects.finish()
 }
 
-/// Runs a script with an image on a kernel of whose VM file no block is locked, and then prints objects.
+/// Runs a script on a kernel of whose VM file no block is locked, and then prints objects.
 pub(crate) fn print_script_objects<'a, D: Device + Drop>(
     rt: &HostRuntime,
     manner: &Manner,
-    image: &[u8],
-    script: &[u8],
+    script: &Script<'_>,
     kernel: &mut Kernel<D>,
 ) -> Result<(), RunFault<'a>>
     requires { NoneLocked kernel.old.core.blocks }
 {
     let alloc = rt.alloc();
     let mut out = Counted::new(Vec::new(alloc));
-    let end = run_lines_in(rt, manner, image, script, kernel, &mut out);
-    print_objects(rt, objects_of_lines(alloc, &out.stream))?;
-    came_to(end?)
+    let end = run_lines_in(rt, manner, script, kernel, &mut out);
+    match print_made(rt, objects_of_lines(alloc, &out.stream)) {
+        Ok(()) => came_to(end),
+        Err(fault) => Err(fault),
+    }
 }
 
 /// Prints how many changed blocks of a file no commit has written.
@@ -140,5 +124,5 @@ pub(crate) fn print_lost(rt: &HostRuntime, path: &str, changed: usize) {
     objects.number("blocks", changed as u64);
     objects.end();
     // If the standard output fails, what follows reports it.
-    let _ = print_objects(rt, objects.finish());
+    let _ = print_made(rt, objects.finish());
 }

@@ -4,10 +4,11 @@ ghost use Rattle.vm_blocks.specs.Listed.{NoneLocked};
 
 use crate::choosing::Chosen;
 use crate::fault::RunFault;
+use crate::printing::{print_made, write_made};
 use crate::tracing::{Traceable, budget_of, noted_call, refused_text, text_of, trace_fault};
-use geos_cli::{ScriptFault, TracedCall, trace_call_watched};
+use geos_cli::{TracedCall, trace_call_watched};
 use geos_kernel::Kernel;
-use geos_shell::{TraceWords, print, write};
+use geos_shell::TraceWords;
 use geos_trace::{MOST_STEPS, Notes, Told, html};
 use std::alloc::{AllocError, Global};
 use vm_file::Device;
@@ -66,18 +67,12 @@ pub(crate) fn page_on<'a, D: Device + Drop>(
     let last = words.steps.min(words.skipped.saturating_add(MOST_STEPS));
     let mut notes = Notes::new(alloc, words.skipped, last);
     let noted = noted_call(words, traceable.image, last as usize);
-    let traced = match trace_call_watched(alloc, &noted, kernel, &mut notes) {
-        Ok(traced) => traced,
-        Err(fault) => return Err(trace_fault(words, fault)),
-    };
-    match traced {
-        Ok(traced) => match page_of(alloc, words, traceable, shown, &traced, &notes) {
-            Ok(page) => Ok(write(rt, out, &page, shown.path)?),
-            Err(_) => Err(RunFault::Session(ScriptFault::Memory)),
-        },
-        Err(refusal) => match refused_text(alloc, refusal.number()) {
-            Ok(text) => Ok(print(rt, &text)?),
-            Err(_) => Err(RunFault::Session(ScriptFault::Memory)),
-        },
+    match trace_call_watched(alloc, &noted, kernel, &mut notes) {
+        Ok(Ok(traced)) => {
+            let page = page_of(alloc, words, traceable, shown, &traced, &notes);
+            write_made(rt, out, page, shown.path)
+        }
+        Ok(Err(refusal)) => print_made(rt, refused_text(alloc, refusal.number())),
+        Err(fault) => Err(trace_fault(&words.call, words.only, fault)),
     }
 }

@@ -23,7 +23,9 @@ pub(crate) fn is_shown(rt: &HostRuntime) -> bool {
 #[derive(Drop)]
 pub(crate) struct ProgressLine<'r> {
     rt: &'r HostRuntime,
-    /// When the run began, if the system has a clock.
+    /// Whether lines are shown: somebody looks at the standard error.
+    is_shown: bool,
+    /// When the run began, if a line may be shown and the system has a clock.
     begun: Option<Instant>,
     budget: usize,
     jumps: u32,
@@ -36,6 +38,7 @@ impl<'r> ProgressLine<'r> {
     pub(crate) fn new(rt: &'r HostRuntime) -> ProgressLine<'r> {
         ProgressLine {
             rt,
+            is_shown: is_shown(rt),
             begun: None,
             budget: 0,
             jumps: 0,
@@ -63,7 +66,11 @@ impl<'r> ProgressLine<'r> {
 
 impl Follow for ProgressLine<'_> {
     fn begins(&mut self, budget: usize) {
-        self.begun = Instant::now(self.rt).ok();
+        self.begun = if self.is_shown {
+            Instant::now(self.rt).ok()
+        } else {
+            None
+        };
         self.budget = budget;
         self.jumps = 0;
         self.next = SHORT;

@@ -2,20 +2,30 @@
 
 ghost use Rattle.geos_shell.specs.Limits.{IsRegion};
 
-use crate::MOST_READ;
-use crate::calling::{Job, Work};
+use crate::calling::{Routines, Task};
 use crate::fault::RunFault;
 use crate::manner::{Manner, output};
-use geos_cli::{Counted, run_session};
-use geos_files::{Locked, opened, wait_for};
-use geos_shell::{Lockable, STANDARD, Sharing, keep_from_output, read, tell_typist};
+use geos_cli::{Counted, ScriptFault, run_session};
+use geos_shell::{STANDARD, keep_from_output, tell_typist};
+
+/// Runs a session on the standard streams.
+fn run_on_streams(rt: &HostRuntime) -> Result<(), ScriptFault> {
+    match output(rt) {
+        Ok(mut out) => run_session(rt.alloc(), &mut Counted::new(rt.stdin()), &mut out),
+        Err(fault) => Err(fault),
+    }
+}
 
 /// Runs a session on the standard streams, unless it would print into what it reads.
 pub fn session<'a>(rt: &HostRuntime) -> Result<(), RunFault<'a>> {
-    keep_from_output(rt, STANDARD)?;
+    if let Err(fault) = keep_from_output(rt, STANDARD) {
+        return Err(RunFault::Stream(fault));
+    }
     tell_typist(rt);
-    let mut out = output(rt)?;
-    Ok(run_session(rt.alloc(), &mut Counted::new(rt.stdin()), &mut out)?)
+    match run_on_streams(rt) {
+        Ok(()) => Ok(()),
+        Err(fault) => Err(RunFault::Session(fault)),
+    }
 }
 
 /// Runs a script of an image on a VM file, with `region` bytes for blocks in memory. In strict mode it ends at the first refused command,
@@ -33,19 +43,6 @@ pub fn run<'a>(
 ) -> Result<(), RunFault<'a>>
     requires { IsRegion region }
 {
-    let path = file;
-    let file = Lockable::open(rt, path, Sharing::Alone)?;
-    let bytes = read(rt, script, MOST_READ);
-    let Locked {
-        device,
-        lock: _lock,
-    } = wait_for(rt, file)?;
-    let file = opened(rt, path, device)?;
-    let work = Work::Script(script, bytes?);
-    Job {
-        manner,
-        image,
-        work,
-    }
-    .run_on(rt, path, region, file)
+    let routines = Routines { manner, image };
+    Task::Script(routines, script).run_on_file(rt, file, region)
 }

@@ -380,8 +380,8 @@ fn print_coverage<'a>(
     }
 }
 
-/// Prints what test scripts came to: if required, how often each line of the text ran, and then how many lines passed and failed. Writes JUnit XML
-/// if a path is given for it.
+/// Prints what test scripts came to: if required, how often each line of the text ran, and then how many lines passed and failed. Writes
+/// JUnit XML if a path is given for it.
 fn report_results<'a>(
     rt: &HostRuntime,
     testable: &Testable<'_>,

@@ -3,18 +3,21 @@
 ghost use Rattle.vm_blocks.specs.Listed.{NoneLocked};
 ghost use Rattle.geos_shell.specs.Limits.{IsRegion};
 
+use crate::calling::Task;
 use crate::choosing::Chosen;
 use crate::fault::RunFault;
 use crate::manner::call_fault;
 use crate::objects::refused_object;
 use crate::paging::{Shown, page_on};
+use crate::printing::print_made;
 use crate::step_objects::trace_objects;
-use geos_cli::{NotedCall, ScriptFault, TraceFault, TracedCall, trace_call, trace_call_watched};
-use geos_files::{Locked, opened, wait_for};
+use geos_cli::{
+    CallFault, NotedCall, ScriptFault, TraceFault, TracedCall, trace_call, trace_call_watched,
+};
 use geos_image::Image;
-use geos_kernel::{Kernel, Name, kernel_in_memory};
+use geos_kernel::{Kernel, Name};
 use geos_machine::Noted;
-use geos_shell::{Chunk, Lockable, Room, Sharing, TraceWords, print};
+use geos_shell::{CallWords, Chunk, Room, TraceWords};
 use geos_terms::Refusal;
 use geos_trace::{ChunkWatch, put_counts, put_end, put_refused, put_step};
 use line_marks::Origin;
@@ -86,11 +89,15 @@ pub(crate) fn refused_text(alloc: Global, refusal: u16) -> Result<Vec<u8>, Alloc
     Ok(out)
 }
 
-/// The fault of a traced call, by what is wrong.
-pub(crate) fn trace_fault<'a>(words: &TraceWords<'a>, fault: TraceFault) -> RunFault<'a> {
+/// The fault of a traced call, by what is wrong. The steps of the routine `only` are requested, if there is one.
+pub(crate) fn trace_fault<'a>(
+    call: &CallWords<'a>,
+    only: Option<&'a str>,
+    fault: TraceFault,
+) -> RunFault<'a> {
     match fault {
-        TraceFault::Call(fault) => call_fault(&words.call, fault),
-        TraceFault::NoRoutine => RunFault::NoSuchRoutine(words.only.unwrap_or("")),
+        TraceFault::Call(fault) => call_fault(call, fault),
+        TraceFault::NoRoutine => RunFault::NoSuchRoutine(only.unwrap_or("")),
     }
 }
 
@@ -123,35 +130,50 @@ fn changing(alloc: Global, watch: &ChunkWatch) -> Result<Vec<u32>, AllocError> {
     Vec::from_slice(alloc, watch.changing()?)
 }
 
-/// Runs it on a kernel of whose VM file no block is locked, and chooses the steps that change a chunk, if that is requested.
-fn run_watched<'a, D: Device + Drop>(
+/// Runs it on a kernel of whose VM file no block is locked, and chooses the steps that change the chunk of the watch.
+fn run_watched<D: Device + Drop>(
     alloc: Global,
-    words: &TraceWords<'a>,
+    noted: &NotedCall<'_, '_>,
+    watch: &mut ChunkWatch<'_>,
+    kernel: &mut Kernel<D>,
+    chosen: &mut Chosen,
+) -> Result<Result<TracedCall, Refusal>, TraceFault>
+    requires { NoneLocked kernel.old.core.blocks }
+{
+    match trace_call_watched(alloc, noted, kernel, watch) {
+        Ok(traced) => match changing(alloc, watch) {
+            Ok(numbers) => {
+                chosen.limit(numbers);
+                Ok(traced)
+            }
+            Err(_) => Err(TraceFault::Call(CallFault::Script(ScriptFault::Memory))),
+        },
+        Err(fault) => Err(fault),
+    }
+}
+
+/// Runs it on a kernel of whose VM file no block is locked, and chooses the steps that change a chunk, if that is requested.
+fn run_on<D: Device + Drop>(
+    alloc: Global,
+    words: &TraceWords<'_>,
     image: &[u8],
     kernel: &mut Kernel<D>,
     chosen: &mut Chosen,
-) -> Result<Result<TracedCall, Refusal>, RunFault<'a>>
+) -> Result<Result<TracedCall, Refusal>, TraceFault>
     requires { NoneLocked kernel.old.core.blocks }
 {
     let most = if words.count { 0 } else { words.steps as usize };
     let noted = noted_call(words, image, most);
     let Some(chunk) = &words.choice.chunk else {
-        return match trace_call(alloc, &noted, kernel) {
-            Ok(traced) => Ok(traced),
-            Err(fault) => Err(trace_fault(words, fault)),
-        };
+        return trace_call(alloc, &noted, kernel);
     };
-    let image = image_of(alloc, image)?;
-    let mut watch = ChunkWatch::new(alloc, &image, name_of(chunk), chunk.chunk, words.steps);
-    match trace_call_watched(alloc, &noted, kernel, &mut watch) {
-        Ok(traced) => {
-            let Ok(numbers) = changing(alloc, &watch) else {
-                return Err(RunFault::Session(ScriptFault::Memory));
-            };
-            chosen.limit(numbers);
-            Ok(traced)
+    match image_of(alloc, image) {
+        Ok(image) => {
+            let name = name_of(chunk);
+            let mut watch = ChunkWatch::new(alloc, &image, name, chunk.chunk, words.steps);
+            run_watched(alloc, &noted, &mut watch, kernel, chosen)
         }
-        Err(fault) => Err(trace_fault(words, fault)),
+        Err(fault) => Err(TraceFault::Call(CallFault::Script(fault))),
     }
 }
 
@@ -172,12 +194,38 @@ fn chosen_lines<'a>(
     if words.choice.lines.is_empty() {
         return Ok(Chosen::all());
     }
-    let image = image_of(alloc, traceable.image)?;
-    Chosen::at_lines(alloc, &image, traceable.origins, &words.choice)
+    match image_of(alloc, traceable.image) {
+        Ok(image) => Chosen::at_lines(alloc, &image, traceable.origins, &words.choice),
+        Err(fault) => Err(RunFault::Session(fault)),
+    }
+}
+
+/// What is printed of a call that was traced, as a text or as JSON objects.
+fn told_of(
+    alloc: Global,
+    words: &TraceWords<'_>,
+    traceable: &Traceable<'_>,
+    traced: &TracedCall,
+    chosen: &Chosen,
+) -> Result<Vec<u8>, AllocError> {
+    if traceable.json {
+        trace_objects(alloc, words, traceable.origins, traced, chosen)
+    } else {
+        text_of(alloc, words, traceable.origins, traced, chosen)
+    }
+}
+
+/// The same of a call of which a block could not be locked.
+fn told_of_refused(alloc: Global, json: bool, refusal: Refusal) -> Result<Vec<u8>, AllocError> {
+    if json {
+        refused_object(alloc, refusal.number())
+    } else {
+        refused_text(alloc, refusal.number())
+    }
 }
 
 /// Runs it on a kernel of whose VM file no block is locked, and prints what was noted.
-fn trace_on<'a, D: Device + Drop>(
+pub(crate) fn trace_on<'a, D: Device + Drop>(
     rt: &HostRuntime,
     words: &TraceWords<'a>,
     traceable: &Traceable<'_>,
@@ -185,60 +233,18 @@ fn trace_on<'a, D: Device + Drop>(
 ) -> Result<(), RunFault<'a>>
     requires { NoneLocked kernel.old.core.blocks }
 {
-    kernel.limit(traceable.room.bytes);
-    kernel.limit_handles(traceable.room.handles);
     if let (Some(shown), Some(path)) = (&traceable.shown, words.page) {
         return page_on(rt, words, traceable, shown, path, kernel);
     }
     let alloc = rt.alloc();
-    let origins = traceable.origins;
-    let mut chosen = chosen_lines(alloc, words, traceable)?;
-    let traced = run_watched(alloc, words, traceable.image, kernel, &mut chosen)?;
-    let text = match traced {
-        Ok(traced) if traceable.json => trace_objects(alloc, words, origins, &traced, &chosen),
-        Err(refusal) if traceable.json => refused_object(alloc, refusal.number()),
-        Ok(traced) => text_of(alloc, words, origins, &traced, &chosen),
-        Err(refusal) => refused_text(alloc, refusal.number()),
+    let mut chosen = match chosen_lines(alloc, words, traceable) {
+        Ok(chosen) => chosen,
+        Err(fault) => return Err(fault),
     };
-    match text {
-        Ok(text) => Ok(print(rt, &text)?),
-        Err(_) => Err(RunFault::Session(ScriptFault::Memory)),
-    }
-}
-
-/// Runs it on a new VM file in memory, with so many bytes for blocks in memory.
-fn trace_in_memory<'a>(
-    rt: &HostRuntime,
-    words: &TraceWords<'a>,
-    traceable: &Traceable<'_>,
-    region: u32,
-) -> Result<(), RunFault<'a>>
-    requires { IsRegion region }
-{
-    match kernel_in_memory(rt.alloc(), region) {
-        Ok(mut kernel) => trace_on(rt, words, traceable, &mut kernel),
-        Err(_) => Err(RunFault::Session(ScriptFault::Memory)),
-    }
-}
-
-/// Runs it on the VM file with the path, after it has waited for the file's lock.
-fn trace_on_file<'a>(
-    rt: &HostRuntime,
-    words: &TraceWords<'a>,
-    traceable: &Traceable<'_>,
-    path: &'a str,
-    region: u32,
-) -> Result<(), RunFault<'a>>
-    requires { IsRegion region }
-{
-    let Locked {
-        device,
-        lock: _lock,
-    } = wait_for(rt, Lockable::open(rt, path, Sharing::Alone)?)?;
-    let file = opened(rt, path, device)?;
-    match Kernel::new(rt.alloc(), region, file) {
-        Ok(mut kernel) => trace_on(rt, words, traceable, &mut kernel),
-        Err(_) => Err(RunFault::Session(ScriptFault::Memory)),
+    match run_on(alloc, words, traceable.image, kernel, &mut chosen) {
+        Ok(Ok(traced)) => print_made(rt, told_of(alloc, words, traceable, &traced, &chosen)),
+        Ok(Err(refusal)) => print_made(rt, told_of_refused(alloc, traceable.json, refusal)),
+        Err(fault) => Err(trace_fault(&words.call, words.only, fault)),
     }
 }
 
@@ -253,8 +259,5 @@ pub fn trace<'a>(
 ) -> Result<(), RunFault<'a>>
     requires { IsRegion region }
 {
-    match file {
-        Some(path) => trace_on_file(rt, words, traceable, path, region),
-        None => trace_in_memory(rt, words, traceable, region),
-    }
+    Task::Trace(words, traceable).run(rt, file, region)
 }
