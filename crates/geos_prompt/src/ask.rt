@@ -27,16 +27,11 @@ pub(crate) fn ask<'a, R: BufRead + Drop>(
     }
     let mut line = Vec::new(rt.alloc());
     match input.by_ref().take(MOST_READ).read_until(b'\n', &mut line) {
-        Ok(_) => {}
-        Err(error) if error.kind() == ErrorKind::OutOfMemory => {
-            return Err(PromptFault::Stream(StreamFault::Memory));
-        }
-        Err(_) => {
-            return Err(PromptFault::Stream(StreamFault::Read(STANDARD, Reason::OTHER)));
-        }
+        Ok(_) if line.len() <= MOST_BYTES => Ok(line),
+        Ok(_) => Err(PromptFault::Session(ScriptFault::TooLong)),
+        Err(error) => Err(PromptFault::Stream(match error.kind() {
+            ErrorKind::OutOfMemory => StreamFault::Memory,
+            _ => StreamFault::Read(STANDARD, Reason::OTHER),
+        })),
     }
-    if line.len() > MOST_BYTES {
-        return Err(PromptFault::Session(ScriptFault::TooLong));
-    }
-    Ok(line)
 }

@@ -1,41 +1,31 @@
 //! The text of `explain`.
 
-use geos_shell::StreamFault;
 use geos_text::{first_line, first_word};
 use geos_texts::{Runnable, known_at_lines, known_lines};
-use std::alloc::{AllocError, Global};
 
-/// The routine that a line begins. A line of a text follows its number and a tab.
-fn routine_of(code: &[u8]) -> Option<&[u8]> {
-    let (word, behind) = first_word(code)?;
-    if word != b"routine".as_slice() {
-        return None;
-    }
-    let (name, _) = first_word(behind)?;
-    Some(name)
-}
-
-/// A line without its number.
-fn code_of(line: &[u8]) -> &[u8] {
-    match line.iter().position(|byte| *byte == b'\t') {
-        Some(at) => line.get(at..).unwrap_or(&[]),
-        None => line,
+/// The first word of a line, and what follows it. A line of a text begins with its number, which is no word of it.
+fn first_in(line: &[u8]) -> Option<(&[u8], &[u8])> {
+    let (word, behind) = first_word(line)?;
+    match line.first() {
+        Some(byte) if byte.is_ascii_digit() => first_word(behind),
+        _ => Some((word, behind)),
     }
 }
 
-/// Whether a line of a text has an instruction or a note, and not only a comment.
-fn says_something(line: &[u8]) -> bool {
-    match first_word(code_of(line)) {
-        Some((word, _)) => !word.starts_with(b";") || line.starts_with(b";"),
+/// Whether the first word is this one.
+fn begins_with(text: &[u8], word: &[u8]) -> bool {
+    match first_word(text) {
+        Some((first, _)) => first == word,
         None => false,
     }
 }
 
-/// The lines of the routine of that name; empty if there is none.
-pub(crate) fn lines_of(alloc: Global, text: &[u8], name: &[u8]) -> Result<Vec<u8>, AllocError> {
-    let mut out = Vec::new(alloc);
+/// The lines of the routine of that name, up to the last one that has an instruction or a note, and not only a comment. Empty if there is no
+/// such routine.
+pub(crate) fn lines_of<'t>(text: &'t [u8], name: &[u8]) -> &'t [u8] {
     let mut rest = text;
     let mut is_in = false;
+    let mut found: &'t [u8] = &[];
     let mut length = 0;
     // A line has at least one byte, so this is enough for all lines.
     for _ in 0..text.len() {
@@ -43,36 +33,29 @@ pub(crate) fn lines_of(alloc: Global, text: &[u8], name: &[u8]) -> Result<Vec<u8
             break;
         }
         let (line, behind) = first_line(rest);
-        rest = behind;
-        if let Some(routine) = routine_of(code_of(line)) {
-            is_in = routine == name;
-        }
-        if is_in {
-            out.extend_from_slice(line)?;
-            out.push(b'\n')?;
-            if says_something(line) {
-                length = out.len();
+        if let Some((word, words)) = first_in(line) {
+            if word == b"routine".as_slice() {
+                is_in = begins_with(words, name);
+                if is_in {
+                    found = rest;
+                }
+            }
+            if is_in && (!word.starts_with(b";") || line.starts_with(b";")) {
+                length = found.len().saturating_sub(behind.len());
             }
         }
+        rest = behind;
     }
-    out.truncate(length);
-    Ok(out)
+    found.get(..length).unwrap_or(&[])
 }
 
-/// What is known at each instruction of routines.
-pub(crate) fn known<'a>(
-    rt: &HostRuntime,
-    routines: &Runnable<'a>,
-) -> Result<Vec<u8>, StreamFault<'a>> {
-    let alloc = rt.alloc();
-    if routines.text.is_empty() {
-        return match known_lines(rt, routines) {
-            Ok(known) => Ok(known.lines),
-            Err(_) => Err(StreamFault::Memory),
-        };
+/// What is known at each instruction of routines. `None` if there is no memory.
+pub(crate) fn known(rt: &HostRuntime, routines: &Runnable<'_>) -> Option<Vec<u8>> {
+    if !routines.text.is_empty() {
+        return known_at_lines(rt.alloc(), &routines.text).ok();
     }
-    match known_at_lines(alloc, &routines.text) {
-        Ok(lines) => Ok(lines),
-        Err(AllocError) => Err(StreamFault::Memory),
+    match known_lines(rt, routines) {
+        Ok(known) => Some(known.lines),
+        Err(_) => None,
     }
 }

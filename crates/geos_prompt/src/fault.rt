@@ -4,27 +4,48 @@ use geos_cli::ScriptFault;
 use geos_files::FileFault;
 use geos_shell::{Diagnosed, Named, StreamFault};
 use std::alloc::Global;
+use std::error::Error;
 use std::fmt::{self, Display, Formatter};
-use thiserror::Error;
 
 /// Why a session ended early.
-#[derive(Drop, Error)]
+#[derive(Drop)]
 pub enum PromptFault<'a> {
     /// What a path names was not read or written.
-    #[error(transparent)]
-    Stream(#[from] StreamFault<'a>),
+    Stream(StreamFault<'a>),
     /// The VM file was not opened.
-    #[error(transparent)]
-    File(#[from] FileFault<'a>),
+    File(FileFault<'a>),
     /// The image is not accepted, the lines are too long, or there is no memory.
-    #[error(transparent)]
-    Session(#[from] ScriptFault),
+    Session(ScriptFault),
     /// The file with the path has something, and does not begin as a journal does.
-    #[error("{} is no journal of geos shell: give an empty or a new file", Named(.0))]
     NoJournal(&'a str),
     /// The VM file with the path did not do what its copy in memory did.
-    #[error("{} did not take the commit: begin a new session, which shows what it has", Named(.0))]
     NotTaken(&'a str),
+}
+
+impl<'a> From<StreamFault<'a>> for PromptFault<'a> {
+    fn from(fault: StreamFault<'a>) -> PromptFault<'a> {
+        PromptFault::Stream(fault)
+    }
+}
+
+impl Display for PromptFault<'_> {
+    fn fmt<W: fmt::Write>(&self, f: &mut Formatter<W>) -> fmt::Result {
+        let (path, words) = match self {
+            PromptFault::Stream(fault) => return fault.fmt(f),
+            PromptFault::File(fault) => return fault.fmt(f),
+            PromptFault::Session(fault) => return fault.fmt(f),
+            PromptFault::NoJournal(path) => (
+                *path,
+                " is no journal of geos shell: give an empty or a new file",
+            ),
+            PromptFault::NotTaken(path) => (
+                *path,
+                " did not take the commit: begin a new session, which shows what it has",
+            ),
+        };
+        Named(path).fmt(f)?;
+        f.write_str(words)
+    }
 }
 
 impl fmt::Debug for PromptFault<'_> {
@@ -32,6 +53,8 @@ impl fmt::Debug for PromptFault<'_> {
         Display::fmt(self, f)
     }
 }
+
+impl Error for PromptFault<'_> {}
 
 impl Diagnosed for PromptFault<'_> {
     fn diagnostics(&self, alloc: Global) -> Vec<u8> {

@@ -7,12 +7,13 @@
 //! | `fault` | `PromptFault`: why a session ended early |
 //! | `journal` | the file that gets the lines since the last commit |
 //! | `past` | the lines that were carried out |
+//! | `reply` | `Reply`: what becomes of a line |
 //! | `running` | carries out lines on a kernel |
-//! | `said` | what a line says |
 //! | `session` | the state of a session, and what becomes of a command |
 //! | `shown` | the texts of `dump`, `map` and `trace` |
-//! | `talk` | answers lines one after another |
 //! | `start` | `shell`: begins a session on a VM file, or on one in memory |
+//! | `talk` | answers lines one after another |
+//! | `verbs` | the first words of lines that are no commands of a script |
 #![tactic(auto)]
 
 mod ask;
@@ -20,12 +21,13 @@ mod explained;
 mod fault;
 mod journal;
 mod past;
+mod reply;
 mod running;
-mod said;
 mod session;
 mod shown;
 mod start;
 mod talk;
+mod verbs;
 
 pub use fault::PromptFault;
 pub use start::{Place, shell};

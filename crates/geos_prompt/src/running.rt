@@ -4,10 +4,11 @@ use crate::past::Past;
 use geos_cli::{Counted, Form, Progress, ScriptFault, Unwatched, Writing};
 use geos_kernel::Kernel;
 use geos_terms::Refusal;
+use geos_text::first_line;
 use geos_verify::Checked;
-use script_commands::{Command, Kept, command_in, keep, print_refusal};
+use script_commands::{Kept, command_in, keep, print_refusal};
 use std::alloc::Global;
-use vm_file::{Device, Disk, MemoryDevice, VmFile};
+use vm_file::{Device, MemoryDevice, VmFile};
 
 /// How outputs are printed: each word in decimal, on a line.
 const PLAIN: Form = Form {
@@ -56,48 +57,53 @@ pub(crate) fn carry_out<D: Device + Drop>(
     }
 }
 
-/// Carries out the lines of the past from one on, and returns what the last one printed.
+/// Carries out the lines of the past whose text begins at this place or later, and returns what the last one printed. `None` if there is no
+/// memory.
 pub(crate) fn carry_out_from<D: Device + Drop>(
     alloc: Global,
     checked: &Checked,
     past: &Past,
     first: usize,
     kernel: &mut Kernel<D>,
-) -> Result<Vec<u8>, ScriptFault> {
+) -> Option<Vec<u8>> {
     let mut names = Vec::new(alloc);
     let mut printed = Vec::new(alloc);
-    for (index, entry) in past.lines.iter().enumerate() {
-        if index >= first
-            && let Some(done) = carry_out(alloc, checked, &names, &entry.text, kernel)?
-        {
-            printed = done.printed;
+    let mut rest: &[u8] = &past.text;
+    for row in &past.rows {
+        let (line, behind) = first_line(rest);
+        rest = behind;
+        if row.start >= first {
+            match carry_out(alloc, checked, &names, line, kernel) {
+                Ok(Some(done)) => printed = done.printed,
+                Ok(None) => {}
+                Err(_) => return None,
+            }
         }
-        keep(&mut names, &entry.text, entry.word)?;
+        if keep(&mut names, line, row.word).is_err() {
+            return None;
+        }
     }
-    Ok(printed)
+    Some(printed)
 }
 
-/// A kernel on a VM file of these bytes in memory, with so many bytes for blocks in memory: 65,536 to 16,777,216.
-pub(crate) fn kernel_on(
-    alloc: Global,
-    bytes: &[u8],
-    region: u32,
-) -> Result<Kernel<MemoryDevice>, ScriptFault> {
+/// A kernel on a VM file of these bytes in memory, with so many bytes for blocks in memory: 65,536 to 16,777,216. `None` if there is no
+/// memory.
+pub(crate) fn kernel_on(alloc: Global, bytes: &[u8], region: u32) -> Option<Kernel<MemoryDevice>> {
     if region < 65_536 || region > 16_777_216 {
-        return Err(ScriptFault::Memory);
+        return None;
     }
-    let mut device = MemoryDevice::new(alloc, bytes.len() as u64)?;
-    match device.write_at(0, bytes) {
-        Ok(()) => {}
-        Err(Disk) => return Err(ScriptFault::Memory),
+    let Ok(mut device) = MemoryDevice::new(alloc, bytes.len() as u64) else {
+        return None;
+    };
+    if device.write_at(0, bytes).is_err() {
+        return None;
     }
     // The same bytes have been opened before.
-    let file = match VmFile::open(alloc, device) {
-        Ok(file) => file,
-        Err(_) => return Err(ScriptFault::Memory),
-    };
-    match Kernel::new(alloc, region, file) {
-        Ok(kernel) => Ok(kernel),
-        Err(_) => Err(ScriptFault::Memory),
+    match VmFile::open(alloc, device) {
+        Ok(file) => match Kernel::new(alloc, region, file) {
+            Ok(kernel) => Some(kernel),
+            Err(_) => None,
+        },
+        Err(_) => None,
     }
 }

@@ -3,21 +3,22 @@
 ghost use Rattle.geos_shell.specs.Limits.{IsRegion};
 
 use crate::fault::PromptFault;
-use crate::journal::{FoundJournal, Journal};
+use crate::journal::open_journal;
 use crate::past::Past;
+use crate::running::kernel_on;
 use crate::session::Session;
-use crate::talk::Talk;
 use geos_cli::ScriptFault;
 use geos_files::{FileFault, Locked, opened, wait_for};
 use geos_kernel::{Kernel, kernel_in_memory};
 use geos_shell::{
-    Lockable, Named, Reason, Reports, STANDARD, Sharing, StreamFault, are_one_file_read,
+    FileLock, Lockable, Named, Reason, Reports, STANDARD, Sharing, StreamFault, are_one_file_read,
     keep_from_output, tell,
 };
 use geos_texts::Runnable;
 use geos_verify::{Checked, check};
 use std::alloc::Global;
-use vm_file::{Device, Disk, FileDevice, MemoryDevice, OpenError};
+use std::fs::File;
+use vm_file::{Device, Disk, FileDevice, OpenError};
 
 /// The handles of blocks are from 1 to this one.
 const MOST_HANDLES: u16 = 1024;
@@ -33,6 +34,13 @@ pub struct Place<'a> {
     pub region: u32,
 }
 
+/// A kernel on a VM file of the system, and the lock on it, which is held until the session ends.
+#[derive(Drop)]
+pub(crate) struct HeldFile<'a> {
+    pub(crate) kernel: Kernel<FileDevice>,
+    pub(crate) lock: FileLock<'a>,
+}
+
 /// The image of routines, if the verifier accepts it.
 fn accepted(alloc: Global, image: &[u8]) -> Result<Checked, ScriptFault> {
     match check(geos_image::read(alloc, image)?) {
@@ -41,126 +49,144 @@ fn accepted(alloc: Global, image: &[u8]) -> Result<Checked, ScriptFault> {
     }
 }
 
-/// Opens the journal of a place, if one is required. It is none of the files that the session reads or prints into.
-fn journal_of<'a>(
-    rt: &HostRuntime,
-    routines: &Runnable<'a>,
-    place: &Place<'a>,
-) -> Result<Option<FoundJournal<'a>>, PromptFault<'a>> {
-    let Some(path) = place.journal else {
-        return Ok(None);
-    };
-    keep_from_output(rt, path)?;
-    for read in [STANDARD, routines.path, place.file.unwrap_or(STANDARD)] {
-        if are_one_file_read(rt, path, read) {
-            return Err(PromptFault::Stream(StreamFault::Write(path, Reason::IN_USE)));
-        }
-    }
-    Ok(Some(Journal::open(rt, path)?))
-}
-
-/// Reports the changed blocks of the VM file that no commit has written, as a diagnostic.
-fn tell_of_lost(rt: &HostRuntime, reports: Reports, path: &str, kernel: &Kernel<MemoryDevice>) {
-    let changed = (1..=MOST_HANDLES)
-        .filter(|handle| kernel.marked(*handle))
-        .count();
-    if changed == 0 || !reports.diagnostics {
-        return;
-    }
-    let path = Named(path);
-    if let Ok(note) = format!(in rt.alloc();
-        "{path}: note: changed blocks that are not committed: {changed}; commit them by update or save\n"
-    ) {
-        tell(rt, reports, note.as_bytes());
-    }
-}
-
-/// Answers lines. The kernel is on the VM file, as it was when the session began. Whether no line was wrong.
-fn answer_lines<'a, D: Device + Drop>(
-    rt: &HostRuntime,
-    reports: Reports,
-    mut session: Session<'_, 'a>,
-    place: &Place<'a>,
-    file: &mut Kernel<D>,
-) -> Result<bool, PromptFault<'a>> {
-    let mut lines = Vec::new(rt.alloc());
-    if let Some(found) = journal_of(rt, session.routines, place)? {
-        session.journal = Some(found.journal);
-        lines = found.lines;
-    }
-    let mut talk = Talk {
-        session,
-        reports,
-        number: 0,
-        is_mute: false,
-        has_bad: false,
-    };
-    talk.resume(rt, &lines, file)?;
-    let kernel = talk.go_on(rt, file)?;
-    if let Some(path) = talk.session.file {
-        tell_of_lost(rt, reports, path, &kernel);
-    }
-    Ok(!talk.has_bad)
-}
-
-/// A session on a VM file of these bytes.
-fn session_on<'s, 'a>(
-    alloc: Global,
-    routines: &'s Runnable<'a>,
-    checked: &'s Checked,
-    place: &Place<'a>,
-    bytes: &[u8],
-) -> Result<Session<'s, 'a>, ScriptFault> {
-    Ok(Session {
-        routines,
-        checked,
-        file: place.file,
-        region: place.region,
-        start: Vec::from_slice(alloc, bytes)?,
-        last: Vec::from_slice(alloc, bytes)?,
-        past: Past::new(alloc),
-        journal: None,
-    })
-}
-
 /// The bytes of the VM file with the path, which a device holds.
 fn bytes_of<'a>(
     alloc: Global,
     path: &'a str,
     device: &mut FileDevice,
-) -> Result<Vec<u8>, PromptFault<'a>> {
+) -> Result<Vec<u8>, FileFault<'a>> {
     let Ok(mut bytes) = Vec::from_elem(alloc, 0u8, device.len() as usize) else {
-        return Err(PromptFault::Session(ScriptFault::Memory));
+        return Err(FileFault::Stream(StreamFault::Memory));
     };
     match device.read_at(0, &mut bytes) {
         Ok(()) => Ok(bytes),
-        Err(Disk) => Err(PromptFault::File(FileFault::Open(path, OpenError::Disk))),
+        Err(Disk) => Err(FileFault::Open(path, OpenError::Disk)),
     }
 }
 
-/// Answers lines on the VM file with the path, under its lock.
-fn shell_on_file<'a>(
+/// The VM file with the path, under its lock, and its bytes.
+fn held<'a>(
+    rt: &HostRuntime,
+    path: &'a str,
+    region: u32,
+) -> Result<(HeldFile<'a>, Vec<u8>), FileFault<'a>>
+    requires { IsRegion region }
+{
+    let Locked { device, lock } = wait_for(rt, Lockable::open(rt, path, Sharing::Alone)?)?;
+    let mut device = opened(rt, path, device)?.into_device();
+    let bytes = bytes_of(rt.alloc(), path, &mut device)?;
+    match Kernel::new(rt.alloc(), region, opened(rt, path, device)?) {
+        Ok(kernel) => Ok((HeldFile { kernel, lock }, bytes)),
+        Err(_) => Err(FileFault::Stream(StreamFault::Memory)),
+    }
+}
+
+/// The bytes of a new VM file in memory. `None` if there is no memory.
+fn new_bytes(alloc: Global, region: u32) -> Option<Vec<u8>>
+    requires { IsRegion region }
+{
+    match kernel_in_memory(alloc, region) {
+        Ok(kernel) => Vec::from_slice(alloc, kernel.device().as_slice()).ok(),
+        Err(_) => None,
+    }
+}
+
+/// A session on the VM file of a place, before its first line.
+fn begun<'s, 'a>(
     rt: &HostRuntime,
     reports: Reports,
-    routines: &Runnable<'a>,
-    checked: &Checked,
+    routines: &'s Runnable<'a>,
+    checked: &'s Checked,
     place: &Place<'a>,
-    path: &'a str,
-) -> Result<bool, PromptFault<'a>>
+) -> Result<Session<'s, 'a>, PromptFault<'a>>
     requires { IsRegion place.now.region }
 {
     let alloc = rt.alloc();
-    let Locked {
-        device,
-        lock: _lock,
-    } = wait_for(rt, Lockable::open(rt, path, Sharing::Alone)?)?;
-    let mut device = opened(rt, path, device)?.into_device();
-    let bytes = bytes_of(alloc, path, &mut device)?;
-    let session = session_on(alloc, routines, checked, place, &bytes)?;
-    let file = opened(rt, path, device)?;
-    match Kernel::new(alloc, place.region, file) {
-        Ok(mut kernel) => answer_lines(rt, reports, session, place, &mut kernel),
-        Err(_) => Err(PromptFault::Session(ScriptFault::Memory)),
+    let (file, start) = match place.file {
+        Some(path) => match held(rt, path, place.region) {
+            Ok((file, bytes)) => (Some(file), bytes),
+            Err(fault) => return Err(PromptFault::File(fault)),
+        },
+        None => match new_bytes(alloc, place.region) {
+            Some(bytes) => (None, bytes),
+            None => return Err(PromptFault::Session(ScriptFault::Memory)),
+        },
+    };
+    let Ok(last) = Vec::from_slice(alloc, &start) else {
+        return Err(PromptFault::Session(ScriptFault::Memory));
+    };
+    let Some(kernel) = kernel_on(alloc, &start, place.region) else {
+        return Err(PromptFault::Session(ScriptFault::Memory));
+    };
+    Ok(Session {
+        routines,
+        checked,
+        place: *place,
+        reports,
+        start,
+        last,
+        past: Past::new(alloc),
+        kernel,
+        journal: None,
+        file,
+        number: 0,
+        is_mute: true,
+        has_bad: false,
+    })
+}
+
+/// Opens the journal of a place, if one is required, and returns its lines too. It is none of the files that the session reads or prints
+/// into.
+fn journal_of<'a>(
+    rt: &HostRuntime,
+    routines: &Runnable<'a>,
+    place: &Place<'a>,
+) -> Result<(Option<File>, Vec<u8>), PromptFault<'a>> {
+    let Some(path) = place.journal else {
+        return Ok((None, Vec::new(rt.alloc())));
+    };
+    keep_from_output(rt, path)?;
+    if are_one_file_read(rt, path, STANDARD)
+        || are_one_file_read(rt, path, routines.path)
+        || are_one_file_read(rt, path, place.file.unwrap_or(STANDARD))
+    {
+        return Err(PromptFault::Stream(StreamFault::Write(path, Reason::IN_USE)));
+    }
+    let (journal, lines) = open_journal(rt, path)?;
+    Ok((Some(journal), lines))
+}
+
+impl<'a> Session<'_, 'a> {
+    /// Opens the journal, if one is required, and carries out its lines.
+    fn take_up(&mut self, rt: &HostRuntime) -> Result<(), PromptFault<'a>> {
+        let (journal, lines) = journal_of(rt, self.routines, &self.place)?;
+        self.resume(rt, &lines)?;
+        self.journal = journal;
+        self.is_mute = false;
+        self.has_bad = false;
+        Ok(())
+    }
+
+    /// Reports the changed blocks of the VM file that no commit has written, as a diagnostic. What is lost in memory is not reported.
+    fn tell_of_lost(&self, rt: &HostRuntime) {
+        let Some(path) = self.place.file else {
+            return;
+        };
+        let mut changed: u16 = 0;
+        for handle in 1..=MOST_HANDLES {
+            if self.kernel.marked(handle) {
+                changed = changed.saturating_add(1);
+            }
+        }
+        if changed == 0 || !self.reports.diagnostics {
+            return;
+        }
+        let path = Named(path);
+        if let Ok(note) = format!(in rt.alloc();
+            "{path}: note: changed blocks that are not committed: {changed}; commit them by update or save\n"
+        ) {
+            tell(rt, self.reports, note.as_bytes());
+        }
     }
 }
 
@@ -176,15 +202,13 @@ pub fn shell<'a>(
     requires { IsRegion place.now.region }
 {
     keep_from_output(rt, STANDARD)?;
-    let alloc = rt.alloc();
-    let checked = accepted(alloc, &routines.image)?;
-    if let Some(path) = place.file {
-        return shell_on_file(rt, reports, routines, &checked, place, path);
-    }
-    let mut kernel = match kernel_in_memory(alloc, place.region) {
-        Ok(kernel) => kernel,
-        Err(_) => return Err(PromptFault::Session(ScriptFault::Memory)),
+    let checked = match accepted(rt.alloc(), &routines.image) {
+        Ok(checked) => checked,
+        Err(fault) => return Err(PromptFault::Session(fault)),
     };
-    let session = session_on(alloc, routines, &checked, place, kernel.device().as_slice())?;
-    answer_lines(rt, reports, session, place, &mut kernel)
+    let mut session = begun(rt, reports, routines, &checked, place)?;
+    session.take_up(rt)?;
+    session.go_on(rt)?;
+    session.tell_of_lost(rt);
+    Ok(!session.has_bad)
 }

@@ -3,20 +3,18 @@
 use crate::ask::{ask, is_typed};
 use crate::explained::{known, lines_of};
 use crate::fault::PromptFault;
-use crate::said::{Said, said_in};
-use crate::session::{Came, Session};
-use geos_cli::ScriptFault;
-use geos_kernel::Kernel;
-use geos_shell::{Reports, STANDARD, StreamFault, print, print_lines, tell};
-use geos_text::{first_line, without_comment};
+use crate::reply::{Reply, Stop, wrong};
+use crate::session::Session;
+use crate::shown::view_of;
+use crate::verbs::{Verb, asked_by, handle_of, words_of};
+use geos_shell::{StreamFault, print, print_lines, tell};
+use geos_text::{Part, first_line, first_word, put_parts, without_comment};
 use geos_topics::topic_of;
-use std::alloc::{AllocError, Global};
-use std::io::{BufReader, Write};
-use std::mem;
-use vm_file::{Device, MemoryDevice};
+use std::alloc::Global;
+use std::io::BufReader;
 
 /// What `help` prints.
-const HELP: &[u8] = b"\
+const HELP: &str = "\
 call add 2 3         a command of a script: call, update, save or revert, also with -> and $
 undo                 takes back the last command; commands before a commit stay
 dump [H [C]]         prints the blocks as geos dump would after update
@@ -27,194 +25,128 @@ help [TOPIC]         prints this list, or what geos help says of DEREF, V4, refu
 quit                 ends the session, as the end of the input does
 ";
 
-/// What follows a line.
-#[derive(Clone, Copy)]
-enum Next {
-    /// The next line.
-    Line,
-    /// The next line, after the lines of the past are carried out again.
-    Again,
-    /// The end of the session.
-    End,
-}
-
-/// A session that answers lines.
-#[derive(Drop)]
-pub(crate) struct Talk<'s, 'a> {
-    pub(crate) session: Session<'s, 'a>,
-    pub(crate) reports: Reports,
-    /// The number of the line, counted from 1.
-    pub(crate) number: u64,
-    /// Whether nothing is printed.
-    pub(crate) is_mute: bool,
-    /// Whether a line was wrong.
-    pub(crate) has_bad: bool,
-}
-
-/// The text on a topic that words name, if they name one.
-fn help_on(alloc: Global, words: &[&str]) -> Result<Option<String>, AllocError> {
-    let mut all = Vec::new(alloc);
-    all.push(String::from_str(alloc, "help")?)?;
-    for word in words {
-        all.push(String::from_str(alloc, *word)?)?;
+/// The reply with this text. `None` if there is no memory.
+fn copied(alloc: Global, text: &[u8]) -> Option<Reply> {
+    match Vec::from_slice(alloc, text) {
+        Ok(text) => Some(Reply::Text(text)),
+        Err(_) => None,
     }
-    topic_of(alloc, &all)
 }
 
-impl<'a> Talk<'_, 'a> {
-    /// Prints an answer.
-    fn print(&self, rt: &HostRuntime, text: &[u8]) -> Result<Next, PromptFault<'a>> {
-        if !self.is_mute {
-            print_lines(rt, text)?;
+/// What there is to say on the topic that the words after `help` name. `None` if there is no memory.
+fn help(alloc: Global, words: &[String]) -> Option<Reply> {
+    if words.len() <= 1 {
+        return copied(alloc, HELP.as_bytes());
+    }
+    match topic_of(alloc, words) {
+        Ok(Some(text)) => Some(Reply::Text(text.into_bytes())),
+        Ok(None) => wrong(
+            alloc,
+            "there is no such topic; others are DEREF, V4, refused 4 and why 2",
+        ),
+        Err(_) => None,
+    }
+}
+
+impl<'a> Session<'_, 'a> {
+    /// The blocks of the VM file, a block of it, or a chunk of this. `None` if there is no memory.
+    fn dump(&self, alloc: Global, words: &[String], fault: &str) -> Option<Reply> {
+        let (Some(block), Some(chunk)) = (handle_of(words.get(1)), handle_of(words.get(2))) else {
+            return wrong(alloc, fault);
+        };
+        let text = self.picture(alloc, Some(view_of(block, chunk)))?;
+        if text.is_empty() {
+            return wrong(alloc, "there is no such block or chunk: dump lists them");
         }
-        Ok(Next::Line)
+        Some(Reply::Text(text))
+    }
+
+    /// What is known of a routine, or of all. `None` if there is no memory.
+    fn explain(&self, rt: &HostRuntime, name: Option<&String>) -> Option<Reply> {
+        let text = known(rt, self.routines)?;
+        let Some(name) = name else {
+            return Some(Reply::Text(text));
+        };
+        let lines = lines_of(&text, name.as_bytes());
+        if lines.is_empty() {
+            return wrong(
+                rt.alloc(),
+                "there is no routine of that name: explain lists them",
+            );
+        }
+        copied(rt.alloc(), lines)
+    }
+
+    /// What becomes of a line without its comment. `None` if there is no memory.
+    fn reply(&mut self, rt: &HostRuntime, line: &[u8]) -> Option<Reply> {
+        let alloc = rt.alloc();
+        let Some((first, rest)) = first_word(line) else {
+            return Some(Reply::Text(Vec::new(alloc)));
+        };
+        let Ok(text) = std::str::from_utf8(line) else {
+            return wrong(alloc, "the line is no text: it is not UTF-8");
+        };
+        let Some(asked) = asked_by(first) else {
+            return self.command(alloc, line);
+        };
+        let words = words_of(alloc, text)?;
+        if words.len() > asked.most {
+            return wrong(alloc, asked.wrong);
+        }
+        match asked.verb {
+            Verb::Quit => Some(Reply::Quit),
+            Verb::Undo => self.undo(alloc),
+            Verb::Dump => self.dump(alloc, &words, asked.wrong),
+            Verb::Map => Some(Reply::Text(self.picture(alloc, None)?)),
+            Verb::Explain => self.explain(rt, words.get(1)),
+            Verb::Trace => self.trace(alloc, rest),
+            Verb::Help => help(alloc, &words),
+        }
+    }
+
+    /// Prints an answer.
+    fn print(&self, rt: &HostRuntime, text: &[u8]) -> Result<(), StreamFault<'a>> {
+        if self.is_mute {
+            Ok(())
+        } else {
+            print_lines(rt, text)
+        }
     }
 
     /// Reports what is wrong with the line.
-    fn blame(&mut self, rt: &HostRuntime, sentence: &[u8]) -> Result<Next, PromptFault<'a>> {
+    fn blame(&mut self, rt: &HostRuntime, sentence: &[u8]) -> Result<(), StreamFault<'a>> {
         self.has_bad = true;
-        let alloc = rt.alloc();
-        let number = self.number;
-        let Ok(front) = format!(in alloc; "line {number}: ") else {
-            return Err(PromptFault::Stream(StreamFault::Memory));
-        };
-        let mut told = front.into_bytes();
-        let ended = told.extend_from_slice(sentence).is_ok() && told.push(b'\n').is_ok();
-        if !ended {
-            return Err(PromptFault::Stream(StreamFault::Memory));
+        let parts = [
+            Part::Numbered("line ", self.number),
+            Part::Text(": "),
+            Part::Bytes(sentence),
+            Part::Text("\n"),
+        ];
+        let mut told = Vec::new(rt.alloc());
+        if put_parts(&mut told, &parts).is_err() {
+            return Err(StreamFault::Memory);
         }
         if !self.is_mute {
             tell(rt, self.reports, &told);
         }
-        Ok(Next::Line)
+        Ok(())
     }
 
-    /// Prints the blocks of the VM file, a block of it, or a chunk of this.
-    fn dump(
-        &mut self,
-        rt: &HostRuntime,
-        block: Option<u16>,
-        chunk: Option<u16>,
-    ) -> Result<Next, PromptFault<'a>> {
-        let text = self.session.dumped(rt.alloc(), block, chunk)?;
-        if text.is_empty() {
-            return self.blame(rt, b"there is no such block or chunk: dump lists them");
-        }
-        self.print(rt, &text)
-    }
-
-    /// Prints what is known of a routine, or of all.
-    fn explain(&mut self, rt: &HostRuntime, name: Option<&str>) -> Result<Next, PromptFault<'a>> {
-        let text = known(rt, self.session.routines)?;
-        let Some(name) = name else {
-            return self.print(rt, &text);
-        };
-        let lines = match lines_of(rt.alloc(), &text, name.as_bytes()) {
-            Ok(lines) => lines,
-            Err(AllocError) => return Err(PromptFault::Stream(StreamFault::Memory)),
-        };
-        if lines.is_empty() {
-            return self.blame(rt, b"there is no routine of that name: explain lists them");
-        }
-        self.print(rt, &lines)
-    }
-
-    /// Prints the steps of a call.
-    fn trace(&mut self, rt: &HostRuntime, words: &[u8]) -> Result<Next, PromptFault<'a>> {
-        match self.session.traced(rt.alloc(), words)? {
-            Some(text) => self.print(rt, &text),
-            None => {
-                let sentence = self.session.why_no_trace(rt.alloc(), words)?;
-                self.blame(rt, &sentence)
-            }
-        }
-    }
-
-    /// Prints what there is to say on a topic.
-    fn help(&mut self, rt: &HostRuntime, words: &[&str]) -> Result<Next, PromptFault<'a>> {
-        if words.is_empty() {
-            return self.print(rt, HELP);
-        }
-        match help_on(rt.alloc(), words) {
-            Ok(Some(text)) => self.print(rt, text.as_bytes()),
-            Ok(None) => self.blame(
-                rt,
-                b"there is no such topic; others are DEREF, V4, refused 4 and why 2",
-            ),
-            Err(AllocError) => Err(PromptFault::Stream(StreamFault::Memory)),
-        }
-    }
-
-    /// Takes back the last command.
-    fn undo(&mut self, rt: &HostRuntime) -> Result<Next, PromptFault<'a>> {
-        if !self.session.past.undo() {
-            return self.blame(
-                rt,
-                b"there is nothing to take back: no command since the last commit",
-            );
-        }
-        self.session.note(rt.alloc(), b"undo")?;
-        Ok(Next::Again)
-    }
-
-    /// Carries out a command of a script.
-    fn command<D: Device + Drop>(
-        &mut self,
-        rt: &HostRuntime,
-        line: &[u8],
-        kernel: &mut Kernel<MemoryDevice>,
-        file: &mut Kernel<D>,
-    ) -> Result<Next, PromptFault<'a>> {
-        let alloc = rt.alloc();
-        match self.session.carry_out(alloc, line, kernel, file)? {
-            Came::Done(printed) => self.print(rt, &printed),
-            Came::NotTaken => Err(PromptFault::NotTaken(self.session.file.unwrap_or(STANDARD))),
-            Came::Bad => {
-                let sentence = self.session.why_bad(alloc, line)?;
-                self.blame(rt, &sentence)
-            }
-        }
-    }
-
-    /// Answers a line.
-    fn answer<D: Device + Drop>(
-        &mut self,
-        rt: &HostRuntime,
-        line: &[u8],
-        kernel: &mut Kernel<MemoryDevice>,
-        file: &mut Kernel<D>,
-    ) -> Result<Next, PromptFault<'a>> {
+    /// Answers a line. Whether another one may follow.
+    fn answer(&mut self, rt: &HostRuntime, line: &[u8]) -> Result<bool, PromptFault<'a>> {
         let (line, _) = first_line(line);
-        let Ok(said) = said_in(rt.alloc(), line) else {
-            return Err(PromptFault::Stream(StreamFault::Memory));
-        };
-        match said {
-            Said::Nothing => Ok(Next::Line),
-            Said::Quit => Ok(Next::End),
-            Said::Undo => self.undo(rt),
-            Said::Dump(block, chunk) => self.dump(rt, block, chunk),
-            Said::Map => {
-                let text = self.session.drawn(rt.alloc())?;
-                self.print(rt, &text)
-            }
-            Said::Explain(name) => self.explain(rt, name),
-            Said::Trace(words) => self.trace(rt, words),
-            Said::Help(words) => self.help(rt, &words),
-            Said::Command(text) => self.command(rt, text, kernel, file),
-            Said::Wrong(sentence) => self.blame(rt, sentence.as_bytes()),
+        match self.reply(rt, without_comment(line)) {
+            Some(Reply::Text(text)) => self.print(rt, &text)?,
+            Some(Reply::Wrong(sentence)) => self.blame(rt, &sentence)?,
+            Some(Reply::Quit) => return Ok(false),
+            Some(Reply::Stop(stop)) => return Err(self.fault_of(stop)),
+            None => return Err(self.fault_of(Stop::Memory)),
         }
+        Ok(true)
     }
 
     /// Carries out the lines of a journal, and prints nothing.
-    pub(crate) fn resume<D: Device + Drop>(
-        &mut self,
-        rt: &HostRuntime,
-        lines: &[u8],
-        file: &mut Kernel<D>,
-    ) -> Result<(), PromptFault<'a>> {
-        let journal = mem::replace(&mut self.session.journal, None);
-        self.is_mute = true;
-        let mut kernel = self.session.kernel(rt.alloc())?;
+    pub(crate) fn resume(&mut self, rt: &HostRuntime, lines: &[u8]) -> Result<(), PromptFault<'a>> {
         let mut rest = lines;
         // A line has at least one byte, so this is enough for all lines.
         for _ in 0..lines.len() {
@@ -223,42 +155,29 @@ impl<'a> Talk<'_, 'a> {
             }
             let (line, behind) = first_line(rest);
             rest = behind;
-            if let Next::Again = self.answer(rt, line, &mut kernel, file)? {
-                kernel = self.session.kernel(rt.alloc())?;
-            }
+            self.answer(rt, line)?;
         }
-        self.is_mute = false;
-        self.has_bad = false;
-        self.session.journal = journal;
         Ok(())
     }
 
-    /// Answers the lines of the standard input up to its end, or to `quit`. Returns a kernel after all that was carried out.
-    pub(crate) fn go_on<D: Device + Drop>(
-        &mut self,
-        rt: &HostRuntime,
-        file: &mut Kernel<D>,
-    ) -> Result<Kernel<MemoryDevice>, PromptFault<'a>> {
-        let mut input = match BufReader::new(rt.alloc(), rt.stdin()) {
-            Ok(input) => input,
-            Err(_) => return Err(PromptFault::Stream(StreamFault::Memory)),
+    /// Answers the lines of the standard input up to its end, or to `quit`.
+    pub(crate) fn go_on(&mut self, rt: &HostRuntime) -> Result<(), PromptFault<'a>> {
+        let Ok(mut input) = BufReader::new(rt.alloc(), rt.stdin()) else {
+            return Err(self.fault_of(Stop::Memory));
         };
-        let mut kernel = self.session.kernel(rt.alloc())?;
         for _ in 0..u64::MAX {
             let line = ask(rt, &mut input)?;
             if line.is_empty() {
                 break;
             }
             self.number = self.number.saturating_add(1);
-            match self.answer(rt, &line, &mut kernel, file)? {
-                Next::Line => {}
-                Next::Again => kernel = self.session.kernel(rt.alloc())?,
-                Next::End => return Ok(kernel),
+            if !self.answer(rt, &line)? {
+                return Ok(());
             }
         }
         if is_typed(rt) {
             print(rt, b"\n")?;
         }
-        Ok(kernel)
+        Ok(())
     }
 }
