@@ -6,7 +6,7 @@ use crate::fault::PromptFault;
 use crate::reply::{Reply, Stop, wrong};
 use crate::session::Session;
 use crate::shown::view_of;
-use crate::verbs::{Verb, asked_by, handle_of, words_of};
+use crate::verbs::{Verb, asked_by, handle_of, limit_of, words_of};
 use geos_shell::{StreamFault, print, print_lines, tell};
 use geos_text::{Part, first_line, first_word, put_parts, without_comment};
 use geos_topics::topic_of;
@@ -86,17 +86,18 @@ impl<'a> Session<'_, 'a> {
         let Ok(text) = std::str::from_utf8(line) else {
             return wrong(alloc, "the line is no text: it is not UTF-8");
         };
-        let Some(asked) = asked_by(first) else {
+        let Some(verb) = asked_by(first) else {
             return self.command(alloc, line);
         };
         let words = words_of(alloc, text)?;
-        if words.len() > asked.most {
-            return wrong(alloc, asked.wrong);
+        let (most, fault) = limit_of(verb);
+        if words.len() > most {
+            return wrong(alloc, fault);
         }
-        match asked.verb {
+        match verb {
             Verb::Quit => Some(Reply::Quit),
             Verb::Undo => self.undo(alloc),
-            Verb::Dump => self.dump(alloc, &words, asked.wrong),
+            Verb::Dump => self.dump(alloc, &words, fault),
             Verb::Map => Some(Reply::Text(self.picture(alloc, None)?)),
             Verb::Explain => self.explain(rt, words.get(1)),
             Verb::Trace => self.trace(alloc, rest),

@@ -21,73 +21,40 @@ pub(crate) enum Verb {
     Help,
 }
 
-/// A first word.
-#[derive(Clone, Copy)]
-pub(crate) struct FirstWord {
-    name: &'static str,
-    pub(crate) verb: Verb,
-    /// The most words that a line may have.
-    pub(crate) most: usize,
-    /// What is wrong with a line that has more, or other ones.
-    pub(crate) wrong: &'static str,
-}
-
-const ALONE: &str = "undo, map and quit are alone in a line";
-
-/// The first words.
-const FIRST_WORDS: [FirstWord; 7] = [
-    FirstWord {
-        name: "quit",
-        verb: Verb::Quit,
-        most: 1,
-        wrong: ALONE,
-    },
-    FirstWord {
-        name: "undo",
-        verb: Verb::Undo,
-        most: 1,
-        wrong: ALONE,
-    },
-    FirstWord {
-        name: "map",
-        verb: Verb::Map,
-        most: 1,
-        wrong: ALONE,
-    },
-    FirstWord {
-        name: "dump",
-        verb: Verb::Dump,
-        most: 3,
-        wrong: "dump takes H and C, numbers from 0 to 65535",
-    },
-    FirstWord {
-        name: "explain",
-        verb: Verb::Explain,
-        most: 2,
-        wrong: "explain takes the name of one routine",
-    },
-    FirstWord {
-        name: "trace",
-        verb: Verb::Trace,
-        most: usize::MAX,
-        wrong: "",
-    },
-    FirstWord {
-        name: "help",
-        verb: Verb::Help,
-        most: usize::MAX,
-        wrong: "",
-    },
-];
-
-/// What the first word of a line asks for; none if it is no such word.
-pub(crate) fn asked_by(word: &[u8]) -> Option<FirstWord> {
-    for first in &FIRST_WORDS {
-        if first.name.as_bytes() == word {
-            return Some(*first);
-        }
+/// What a line asks for by its first word; none if it is no such word.
+pub(crate) fn asked_by(word: &[u8]) -> Option<Verb> {
+    if word == b"quit".as_slice() {
+        return Some(Verb::Quit);
+    }
+    if word == b"undo".as_slice() {
+        return Some(Verb::Undo);
+    }
+    if word == b"dump".as_slice() {
+        return Some(Verb::Dump);
+    }
+    if word == b"map".as_slice() {
+        return Some(Verb::Map);
+    }
+    if word == b"explain".as_slice() {
+        return Some(Verb::Explain);
+    }
+    if word == b"trace".as_slice() {
+        return Some(Verb::Trace);
+    }
+    if word == b"help".as_slice() {
+        return Some(Verb::Help);
     }
     None
+}
+
+/// The most words of a line that asks for this, and what is wrong with a line that has more, or other ones.
+pub(crate) fn limit_of(verb: Verb) -> (usize, &'static str) {
+    match verb {
+        Verb::Quit | Verb::Undo | Verb::Map => (1, "undo, map and quit are alone in a line"),
+        Verb::Dump => (3, "dump takes H and C, numbers from 0 to 65535"),
+        Verb::Explain => (2, "explain takes the name of one routine"),
+        Verb::Trace | Verb::Help => (usize::MAX, ""),
+    }
 }
 
 /// The words of a text. `None` if there is no memory.
