@@ -7,12 +7,13 @@ use crate::reply::{Reply, joined};
 use crate::session::Session;
 use geos_cli::{Unwatched, trace_lent};
 use geos_dump::{Detail, Side, View, dump, map, read_areas};
+use geos_image::Image;
 use geos_machine::{Outcome, Trace};
 use geos_terms::Refusal;
 use geos_trace::{put_end, put_refused, put_step};
 use line_marks::Origin;
 use script_commands::{Call, Command, command_in};
-use std::alloc::Global;
+use std::alloc::{AllocError, Global};
 use vm_file::{How, MemoryDevice, VmFile};
 
 /// How many columns a drawing has.
@@ -68,6 +69,28 @@ fn listed<'l, 'o>(origins: &'l Option<Vec<Origin<'o>>>) -> Option<&'l [Origin<'o
     }
 }
 
+/// The budget of a routine.
+fn budget_of(image: &Image, routine: u16) -> u32 {
+    if routine < image.count() {
+        image.routine(routine).budget
+    } else {
+        0
+    }
+}
+
+/// Appends the lines of steps that were noted.
+fn put_steps(
+    out: &mut Vec<u8>,
+    image: &Image,
+    origins: Option<&[Origin<'_>]>,
+    notes: &Trace,
+) -> Result<(), AllocError> {
+    for noted in notes.steps() {
+        put_step(out, image, origins, noted)?;
+    }
+    Ok(())
+}
+
 impl Session<'_, '_> {
     /// The blocks of the VM file after an `update`, printed as `geos dump` prints what is in the view, or drawn as by `geos map` without one.
     /// The line of the refusal if the `update` is refused. `None` if there is no memory.
@@ -94,21 +117,13 @@ impl Session<'_, '_> {
         let Ok(origins) = self.routines.origins(alloc, true) else {
             return None;
         };
-        let listed = listed(&origins);
         let mut out = Vec::new(alloc);
-        for noted in notes.steps() {
-            if put_step(&mut out, image, listed, noted).is_err() {
-                return None;
-            }
-        }
-        let budget = if routine < image.count() {
-            image.routine(routine).budget
+        if put_steps(&mut out, image, listed(&origins), notes).is_ok()
+            && put_end(&mut out, outcome, budget_of(image, routine)).is_ok()
+        {
+            Some(out)
         } else {
-            0
-        };
-        match put_end(&mut out, outcome, budget) {
-            Ok(()) => Some(out),
-            Err(_) => None,
+            None
         }
     }
 

@@ -18,7 +18,7 @@ use geos_texts::Runnable;
 use geos_verify::{Checked, check};
 use std::alloc::Global;
 use std::fs::File;
-use vm_file::{Device, Disk, FileDevice, OpenError};
+use vm_file::{Device, Disk, FileDevice, MemoryDevice, OpenError};
 
 /// The handles of blocks are from 1 to this one.
 const MOST_HANDLES: u16 = 1024;
@@ -69,14 +69,14 @@ fn held<'a>(
     rt: &HostRuntime,
     path: &'a str,
     region: u32,
-) -> Result<(HeldFile<'a>, Vec<u8>), FileFault<'a>>
+) -> Result<(Option<HeldFile<'a>>, Vec<u8>), FileFault<'a>>
     requires { IsRegion region }
 {
     let Locked { device, lock } = wait_for(rt, Lockable::open(rt, path, Sharing::Alone)?)?;
     let mut device = opened(rt, path, device)?.into_device();
     let bytes = bytes_of(rt.alloc(), path, &mut device)?;
     match Kernel::new(rt.alloc(), region, opened(rt, path, device)?) {
-        Ok(kernel) => Ok((HeldFile { kernel, lock }, bytes)),
+        Ok(kernel) => Ok((Some(HeldFile { kernel, lock }), bytes)),
         Err(_) => Err(FileFault::Stream(StreamFault::Memory)),
     }
 }
@@ -91,6 +91,31 @@ fn new_bytes(alloc: Global, region: u32) -> Option<Vec<u8>>
     }
 }
 
+/// The VM file of a place, if it is one of the system, and its bytes.
+fn found<'a>(
+    rt: &HostRuntime,
+    place: &Place<'a>,
+) -> Result<(Option<HeldFile<'a>>, Vec<u8>), FileFault<'a>>
+    requires { IsRegion place.now.region }
+{
+    match place.file {
+        Some(path) => held(rt, path, place.region),
+        None => match new_bytes(rt.alloc(), place.region) {
+            Some(bytes) => Ok((None, bytes)),
+            None => Err(FileFault::Stream(StreamFault::Memory)),
+        },
+    }
+}
+
+/// A copy of the bytes of a VM file, and a kernel on another one. `None` if there is no memory.
+fn copies(alloc: Global, bytes: &[u8], region: u32) -> Option<(Vec<u8>, Kernel<MemoryDevice>)> {
+    let kernel = kernel_on(alloc, bytes, region)?;
+    match Vec::from_slice(alloc, bytes) {
+        Ok(copy) => Some((copy, kernel)),
+        Err(_) => None,
+    }
+}
+
 /// A session on the VM file of a place, before its first line.
 fn begun<'s, 'a>(
     rt: &HostRuntime,
@@ -101,21 +126,11 @@ fn begun<'s, 'a>(
 ) -> Result<Session<'s, 'a>, PromptFault<'a>>
     requires { IsRegion place.now.region }
 {
-    let alloc = rt.alloc();
-    let (file, start) = match place.file {
-        Some(path) => match held(rt, path, place.region) {
-            Ok((file, bytes)) => (Some(file), bytes),
-            Err(fault) => return Err(PromptFault::File(fault)),
-        },
-        None => match new_bytes(alloc, place.region) {
-            Some(bytes) => (None, bytes),
-            None => return Err(PromptFault::Session(ScriptFault::Memory)),
-        },
+    let (file, start) = match found(rt, place) {
+        Ok(found) => found,
+        Err(fault) => return Err(PromptFault::File(fault)),
     };
-    let Ok(last) = Vec::from_slice(alloc, &start) else {
-        return Err(PromptFault::Session(ScriptFault::Memory));
-    };
-    let Some(kernel) = kernel_on(alloc, &start, place.region) else {
+    let Some((last, kernel)) = copies(rt.alloc(), &start, place.region) else {
         return Err(PromptFault::Session(ScriptFault::Memory));
     };
     Ok(Session {
@@ -125,7 +140,7 @@ fn begun<'s, 'a>(
         reports,
         start,
         last,
-        past: Past::new(alloc),
+        past: Past::new(rt.alloc()),
         kernel,
         journal: None,
         file,
