@@ -34,7 +34,7 @@ pub struct Place<'a> {
     pub region: u32,
 }
 
-/// A kernel on a VM file of the system, and the lock on it, which is held until the session ends.
+/// A kernel on a VM file of the system, and the lock on it, which lasts until the session ends.
 #[derive(Drop)]
 pub(crate) struct HeldFile<'a> {
     pub(crate) kernel: Kernel<FileDevice>,

@@ -2,7 +2,7 @@
 
 use std::alloc::Global;
 
-/// What a line asks for by its first word.
+/// What a line requests by its first word.
 #[derive(Clone, Copy)]
 pub(crate) enum Verb {
     /// To end the session.
@@ -21,7 +21,7 @@ pub(crate) enum Verb {
     Help,
 }
 
-/// What a line asks for by its first word; none if it is no such word.
+/// What a line requests by its first word; none if it is no such word.
 pub(crate) fn asked_by(word: &[u8]) -> Option<Verb> {
     if word == b"quit".as_slice() {
         return Some(Verb::Quit);
@@ -47,7 +47,7 @@ pub(crate) fn asked_by(word: &[u8]) -> Option<Verb> {
     None
 }
 
-/// The most words of a line that asks for this, and what is wrong with a line that has more, or other ones.
+/// The most words of a line that requests this, and what is wrong with a line that has more, or other ones.
 pub(crate) fn limit_of(verb: Verb) -> (usize, &'static str) {
     match verb {
         Verb::Quit | Verb::Undo | Verb::Map => (1, "undo, map and quit are alone in a line"),
