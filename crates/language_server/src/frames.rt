@@ -25,7 +25,7 @@ pub(crate) enum Incoming {
 
 /// The number of bytes that a line of a header names, if it names one.
 fn length_in(line: &[u8]) -> Option<u64> {
-    let (name, number) = std::str::from_utf8(line).ok()?.split_once(':')?;
+    let (name, number) = std::str::from_utf8(line).ok()?.split_once(":")?;
     if name.eq_ignore_ascii_case("Content-Length") {
         number.trim().parse().ok()
     } else {

@@ -129,7 +129,7 @@ impl<'t> Names<'t> {
 /// The names of an assembly text, in its order. If an allocation is refused, that is noted, and some are left out.
 pub(crate) fn names_in<'t>(out: &mut Reply, document: &'t Document) -> Vec<NameUse<'t>> {
     let mut found = Vec::new(out.alloc);
-    for (line, text) in document.text.split('\n').enumerate() {
+    for (line, text) in document.text.split("\n").enumerate() {
         let mut names = Names::of(line, code_of(document, text));
         // Each word has at least a byte.
         for _ in 0..text.len() {

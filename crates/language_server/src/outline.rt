@@ -49,7 +49,7 @@ fn put_function(out: &mut Reply, document: &Document, params: &Value) {
     let spot = spot_of(&document.text, position_of(params));
     let asked = word_at(spot.line, line_of(&document.text, spot.line), spot.at);
     out.begin_items("");
-    for (line, text) in document.text.split('\n').enumerate() {
+    for (line, text) in document.text.split("\n").enumerate() {
         match (function_of(line, code_of(document, text)), &asked) {
             (Some(found), Some(asked)) if found.words() == asked.words() => {
                 out.item();
@@ -138,7 +138,7 @@ fn put_symbol(out: &mut Reply, kind: u64, span: &Span<'_>) {
 pub(crate) fn put_symbols(out: &mut Reply, document: &Document) {
     out.begin_items("");
     if document.is_source() {
-        for (line, text) in document.text.split('\n').enumerate() {
+        for (line, text) in document.text.split("\n").enumerate() {
             if let Some(span) = function_of(line, code_of(document, text)) {
                 put_symbol(out, 12, &span)
             }

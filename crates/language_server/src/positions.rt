@@ -24,8 +24,8 @@ pub(crate) struct Span<'t> {
 
 /// The line with this number, without its end. Empty after the last line.
 pub(crate) fn line_of(text: &str, line: usize) -> &str {
-    let found = text.split('\n').nth(line).unwrap_or("");
-    found.strip_suffix('\r').unwrap_or(found)
+    let found = text.split("\n").nth(line).unwrap_or("");
+    found.strip_suffix("\r").unwrap_or(found)
 }
 
 /// The offset in bytes of a column of a line, at most the line's length.
@@ -92,6 +92,6 @@ pub(crate) fn put_range(out: &mut Reply, part: &str, span: &Span<'_>) {
 pub(crate) fn put_all(out: &mut Reply, part: &str, text: &str) {
     out.raw(part);
     put_position(out, "{\"start\":", 0, 0);
-    put_position(out, ",\"end\":", text.split('\n').count(), 0);
+    put_position(out, ",\"end\":", text.split("\n").count(), 0);
     out.raw("}")
 }
