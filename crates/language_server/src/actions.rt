@@ -1,130 +1,114 @@
 //! Edits that mend a finding.
 
 use crate::documents::Document;
-use crate::edits::{Edit, Mend};
+use crate::edits::Mend;
 use crate::findings::{Finding, findings_of, object_in};
-use crate::heads::heads_of;
-use crate::insertions::mend_by_insertion;
+use crate::insertions::mends_by_insertion;
 use crate::mender::Mender;
-use crate::positions::{Span, line_of};
+use crate::positions::Span;
 use crate::reply::Reply;
-use crate::rows::mends_by_rows;
+use crate::rows::put_rows;
 use serde_json::Value;
 use std::alloc::{AllocError, Global};
-use std::ops::RangeInclusive;
 
-/// A part of a line that a word replaces, with the words that say so.
-fn replaced<'d>(
-    alloc: Global,
-    title: &str,
-    span: Span<'d>,
-    new: &str,
-) -> Result<Option<Mend<'d>>, AllocError> {
-    let title = format!(in alloc; "{title}{new}")?;
-    let new = String::from_str(alloc, new)?;
-    Mend::of(alloc, title, Edit { span, new }).map(Some)
+/// Replaces a part of a line by a word, which ends the title.
+fn replace(mend: &mut Mend, title: &str, span: &Span<'_>, new: &str) {
+    mend.begin(title);
+    mend.title.raw(new);
+    mend.first.begin(span.line, span.start, span.end);
+    mend.first.new.raw(new)
 }
 
-/// The word that a cure says in place of the one at the column of the finding.
-fn other_word<'d>(
-    alloc: Global,
-    finding: &Finding<'d, '_>,
-) -> Result<Option<Mend<'d>>, AllocError> {
-    match finding.text("cure").strip_prefix("say ") {
-        Some(new) if finding.text("message").contains(" is no instruction") && !new.contains(' ') =>
-            { replaced(alloc, "Replace by ", finding.span, new) }
-        _ => Ok(None),
+/// Writes an action for the word that a cure says in place of the one at the column of the finding.
+fn put_other_word(out: &mut Reply, mender: &mut Mender<'_>, finding: &Finding<'_, '_>) {
+    if let Some(new) = finding.text("cure").strip_prefix("say ")
+        && finding.text("message").contains(" is no instruction")
+        && !new.contains(" ")
+    {
+        replace(&mut mender.mend, "Replace by ", &finding.span, new);
+        mender.put(out, finding)
     }
 }
 
-/// The last line `routine` at this line or before it.
-fn routine_line<'d>(document: &'d Document, line: usize) -> Option<Span<'d>> {
-    (0..=line).rev().find_map(|line| {
-        let text = line_of(&document.text, line);
-        if text.trim_start().starts_with("routine ") {
-            Some(Span {
-                line,
-                text,
-                start: text.find("budget ")? + "budget ".len(),
-                end: text.len(),
-            })
-        } else {
-            None
+/// How many digits a text begins with.
+fn digits_in(text: &str) -> usize {
+    let mut digits: usize = 0;
+    for byte in text.bytes() {
+        if !byte.is_ascii_digit() {
+            break;
         }
-    })
+        digits = digits.saturating_add(1);
+    }
+    digits
 }
 
-/// The least budget in the line of the routine.
-fn least_budget<'d>(
-    alloc: Global,
-    document: &'d Document,
-    finding: &Finding<'_, '_>,
-) -> Result<Option<Mend<'d>>, AllocError> {
-    let told = finding.text("message").split_once("the least budget is ");
-    let (Some((_, least)), Some(rest)) = (told, routine_line(document, finding.span.line)) else {
-        return Ok(None);
-    };
-    let number = rest.text.get(rest.start..).unwrap_or("");
-    let digits = number
-        .bytes()
-        .position(|byte| !byte.is_ascii_digit())
-        .unwrap_or(number.len());
-    let span = Span {
-        end: rest.start + digits,
-        ..rest
-    };
-    replaced(alloc, "Set the budget ", span, least)
+/// The budget in the last line `routine` at this line or before it.
+fn budget_at(document: &Document, line: usize) -> Option<Span<'_>> {
+    let mut found = None;
+    for (number, text) in document.text.split("\n").enumerate() {
+        if number > line {
+            break;
+        }
+        if text.trim_start().starts_with("routine ")
+            && let Some((_, after)) = text.split_once("budget ")
+        {
+            let start = text.len().saturating_sub(after.len());
+            found = Some(Span {
+                line: number,
+                text,
+                start,
+                end: start.saturating_add(digits_in(after)),
+            })
+        }
+    }
+    found
+}
+
+/// Writes an action for the least budget in the line of the routine.
+fn put_least_budget(out: &mut Reply, mender: &mut Mender<'_>, finding: &Finding<'_, '_>) {
+    if let Some((_, least)) = finding.text("message").split_once("the least budget is ")
+        && let Some(budget) = budget_at(mender.document, finding.span.line)
+    {
+        replace(&mut mender.mend, "Set the budget ", &budget, least);
+        mender.put(out, finding)
+    }
+}
+
+/// Writes the actions that mend a finding.
+fn put_mends(out: &mut Reply, mender: &mut Mender<'_>, finding: &Finding<'_, '_>) {
+    put_other_word(out, mender, finding);
+    put_least_budget(out, mender, finding);
+    if !mender.document.is_source() {
+        if mends_by_insertion(mender, finding) {
+            mender.put(out, finding)
+        }
+        put_rows(out, mender, finding)
+    }
 }
 
 /// The number of a line that a position of the request's range names.
 fn line_in(params: &Value, end: &str) -> usize {
-    params.pointer(end).and_then(Value::as_u64).unwrap_or(0) as usize
-}
-
-/// Writes the actions that mend a finding.
-fn put_mends<'d>(
-    out: &mut Reply,
-    mender: &mut Mender<'d>,
-    finding: &Finding<'d, '_>,
-) -> Result<(), AllocError> {
-    let (alloc, document) = (mender.alloc, mender.document);
-    let simple = [
-        other_word(alloc, finding)?,
-        least_budget(alloc, document, finding)?,
-    ];
-    for mend in simple.iter().flatten() {
-        mend.put(out, document, finding)
+    match params.pointer(end) {
+        Some(line) => line.as_u64().unwrap_or(0) as usize,
+        None => 0,
     }
-    if document.is_source() {
-        return Ok(());
-    }
-    let heads = heads_of(alloc, document)?;
-    if let Some(mend) = mend_by_insertion(mender, finding, &heads)? {
-        mend.put(out, document, finding)
-    }
-    for mend in &mends_by_rows(mender, finding, &heads)? {
-        mend.put(out, document, finding)
-    }
-    Ok(())
 }
 
 /// Writes the actions that mend the findings among objects of `geos explain --json`, if they are about these lines of the document.
-fn put_all_mends(
-    out: &mut Reply,
-    document: &Document,
-    objects: &[u8],
-    lines: RangeInclusive<usize>,
-) -> Result<(), AllocError> {
+fn put_all_mends(out: &mut Reply, document: &Document, objects: &[u8], first: usize, last: usize) {
     let mut mender = Mender::new(out.alloc, document, objects);
     for line in objects.split(|byte| *byte == b'\n') {
         if let Some(object) = object_in(out.alloc, line)
             && let Some(finding) = Finding::of(document, &object)
-            && lines.contains(&finding.span.line)
+            && first <= finding.span.line
+            && finding.span.line <= last
         {
-            put_mends(out, &mut mender, &finding)?
+            put_mends(out, &mut mender, &finding)
         }
     }
-    Ok(())
+    if mender.mend.has_failed() {
+        out.fail()
+    }
 }
 
 /// `textDocument/codeAction`: actions for the findings within the lines of the request that edits mend.
@@ -132,12 +116,9 @@ pub(crate) fn put_actions(out: &mut Reply, document: &Document, params: &Value) 
     let first = line_in(params, "/range/start/line");
     let last = line_in(params, "/range/end/line");
     out.begin_items("");
-    let done = match findings_of(out.alloc, document) {
-        Ok(objects) => put_all_mends(out, document, &objects, first..=last),
-        Err(error) => Err(error),
-    };
-    if done.is_err() {
-        out.fail()
+    match findings_of(out.alloc, document) {
+        Ok(objects) => put_all_mends(out, document, &objects, first, last),
+        Err(AllocError) => out.fail(),
     }
     out.raw("]")
 }

@@ -2,7 +2,7 @@
 
 use crate::documents::{Document, MOST_BYTES};
 use crate::names::{code_of, word_at};
-use crate::positions::{Span, line_of, put_range};
+use crate::positions::{Span, put_range};
 use crate::reading::{Wanted, put_read};
 use crate::reply::Reply;
 use geos_json::JsonLines;
@@ -11,14 +11,14 @@ use geos_texts::{Runnable, uses_files};
 use serde_json::Value;
 use std::alloc::{AllocError, Global};
 
-/// What is found in a document: the objects that `geos explain --json` prints, an object a line. Nothing of a document that is too long,
-/// or of a source that uses files, since the server reads none.
-pub(crate) fn findings_of(alloc: Global, document: &Document) -> Result<Vec<u8>, AllocError> {
+/// What is found in the bytes of a document with this name: the objects that `geos explain --json` prints, an object a line. Nothing of a
+/// document that is too long, or of a source that uses files, since the server reads none.
+pub(crate) fn findings_in(alloc: Global, uri: &str, text: Vec<u8>) -> Result<Vec<u8>, AllocError> {
     let mut out = JsonLines::new(alloc);
-    let needs_files = document.is_source() && uses_files(document.text.as_bytes());
-    if document.text.len() <= MOST_BYTES && !needs_files {
-        let text = Vec::from_slice(alloc, document.text.as_bytes())?;
-        let read = Runnable::of(alloc, TextPath::by_ending(&document.uri), text);
+    let path = TextPath::by_ending(uri);
+    let needs_files = path.is_source() && uses_files(&text);
+    if text.len() <= MOST_BYTES && !needs_files {
+        let read = Runnable::of(alloc, path, text);
         let wanted = Wanted {
             warnings: true,
             effects: false,
@@ -27,6 +27,12 @@ pub(crate) fn findings_of(alloc: Global, document: &Document) -> Result<Vec<u8>,
         let _ = put_read(alloc, &mut out, read, wanted);
     }
     out.finish()
+}
+
+/// What is found in a document.
+pub(crate) fn findings_of(alloc: Global, document: &Document) -> Result<Vec<u8>, AllocError> {
+    let text = Vec::from_slice(alloc, document.text.as_bytes())?;
+    findings_in(alloc, &document.uri, text)
 }
 
 /// A finding about a line of a document.
@@ -39,24 +45,27 @@ pub(crate) struct Finding<'d, 'v> {
 
 /// The number that a member of an object has.
 pub(crate) fn number(object: &Value, member: &str) -> Option<usize> {
-    let number = object.get(member).and_then(Value::as_u64)?;
-    usize::try_from(number).ok()
+    Some(object.get(member)?.as_u64()? as usize)
 }
 
-/// A line without its indentation and its comment.
-pub(crate) fn code_in<'d>(document: &Document, line: usize, text: &'d str) -> Span<'d> {
-    let code = code_of(document, text).trim_end();
-    Span {
-        line,
-        text,
-        start: code.len() - code.trim_start().len().min(code.len()),
-        end: code.len(),
+/// The text that a member of an object has, empty if it has none.
+pub(crate) fn text_in<'v>(object: &'v Value, member: &str) -> &'v str {
+    match object.get(member) {
+        Some(value) => value.as_str().unwrap_or(""),
+        None => "",
     }
 }
 
 /// The line with this number without its indentation and its comment.
-fn code_span<'d>(document: &'d Document, line: usize) -> Span<'d> {
-    code_in(document, line, line_of(&document.text, line))
+pub(crate) fn code_span<'d>(document: &'d Document, line: usize) -> Span<'d> {
+    let text = document.line(line);
+    let code = code_of(document, text).trim_end();
+    Span {
+        line,
+        text,
+        start: code.len().saturating_sub(code.trim_start().len()),
+        end: code.len(),
+    }
 }
 
 /// The part of a line that begins at a column, counted from 1.
@@ -76,11 +85,11 @@ fn span_at<'d>(document: &'d Document, line: usize, column: usize) -> Span<'d> {
 impl<'d, 'v> Finding<'d, 'v> {
     /// The finding that an object is, if it is one. One in a file that a line mark names is about the first line.
     pub(crate) fn of(document: &'d Document, object: &'v Value) -> Option<Finding<'d, 'v>> {
-        let kind = object.get("kind").and_then(Value::as_str)?;
+        let kind = text_in(object, "kind");
         if kind != "error" && kind != "warning" {
             return None;
         }
-        let is_here = object.get("file").and_then(Value::as_str) == Some(&document.uri);
+        let is_here = text_in(object, "file") == document.uri.as_str();
         let line = match number(object, "line") {
             Some(line) if is_here => line.saturating_sub(1),
             _ => 0,
@@ -94,10 +103,7 @@ impl<'d, 'v> Finding<'d, 'v> {
 
     /// The text that a member has, empty if it has none.
     pub(crate) fn text(&self, member: &str) -> &'v str {
-        self.object
-            .get(member)
-            .and_then(Value::as_str)
-            .unwrap_or("")
+        text_in(self.object, member)
     }
 
     /// The line of the cause, counted from 0, if that is known.

@@ -1,84 +1,90 @@
 //! The first lines of routines, and the labels to which a routine may go if it gives up.
 
 use crate::documents::Document;
-use crate::findings::code_in;
+use crate::edits::NO_LINE;
 use crate::names::{code_of, next_word};
 use crate::positions::Span;
-use std::alloc::{AllocError, Global};
 
-/// The line `routine`, and the lines `in` and `out` if there are any.
+/// The numbers of the line `routine`, and of the lines `in` and `out`, which are `NO_LINE` if there are none.
 #[derive(Clone, Copy)]
-pub(crate) struct Head<'d> {
-    pub(crate) routine: Span<'d>,
-    pub(crate) name: &'d str,
-    pub(crate) enters: Option<Span<'d>>,
-    pub(crate) exits: Option<Span<'d>>,
+pub(crate) struct Head {
+    pub(crate) routine: usize,
+    pub(crate) enters: usize,
+    pub(crate) exits: usize,
 }
 
-impl<'d> Head<'d> {
-    /// The head that begins at a line, if one does.
-    fn begin(line: Span<'d>) -> Option<Head<'d>> {
-        let first = next_word(line.line, line.text, 0)?;
-        if first.words() != "routine" {
-            return None;
+impl Head {
+    /// The head that begins at a line.
+    fn at(routine: usize) -> Head {
+        Head {
+            routine,
+            enters: NO_LINE,
+            exits: NO_LINE,
         }
-        let name = next_word(line.line, line.text, first.end)?;
-        Some(Head {
-            routine: line,
-            name: name.words(),
-            enters: None,
-            exits: None,
-        })
-    }
-
-    /// Takes a line after the first one.
-    fn take(&mut self, line: Span<'d>) {
-        let code = line.words();
-        if code.starts_with("in ") {
-            self.enters = Some(line)
-        } else if code.starts_with("out ") {
-            self.exits = Some(line)
-        }
-    }
-
-    /// Whether callers from outside may call the routine.
-    pub(crate) fn is_public(&self) -> bool {
-        self.routine.words().split(' ').any(|word| word == "public")
     }
 }
 
-/// The heads of all routines.
-pub(crate) fn heads_of<'d>(
-    alloc: Global,
-    document: &'d Document,
-) -> Result<Vec<Head<'d>>, AllocError> {
-    let mut heads: Vec<Head<'d>> = Vec::new(alloc);
-    for (line, text) in document.text.split('\n').enumerate() {
-        let line = code_in(document, line, text.strip_suffix('\r').unwrap_or(text));
-        match Head::begin(line) {
-            Some(head) => heads.push(head)?,
-            None => {
-                if let Some(head) = heads.last_mut() {
-                    head.take(line)
-                }
-            }
-        }
+/// The name of the routine that begins with this code, empty if none does.
+fn routine_in(code: &str) -> &str {
+    match next_word(0, code, 0) {
+        Some(first) if first.words() == "routine" => match next_word(0, code, first.end) {
+            Some(name) => name.words(),
+            None => "",
+        },
+        _ => "",
     }
-    Ok(heads)
 }
 
 /// The head of the routine that a line is in.
-pub(crate) fn head_at<'d>(heads: &[Head<'d>], line: usize) -> Option<Head<'d>> {
-    heads
-        .iter()
-        .rev()
-        .find(|head| head.routine.line <= line)
-        .copied()
+pub(crate) fn head_at(document: &Document, line: usize) -> Option<Head> {
+    let mut head = Head::at(NO_LINE);
+    for (number, text) in document.text.split("\n").enumerate() {
+        let code = code_of(document, text).trim();
+        if !routine_in(code).is_empty() {
+            if number > line {
+                break;
+            }
+            head = Head::at(number)
+        } else if code.starts_with("in ") {
+            head.enters = number
+        } else if code.starts_with("out ") {
+            head.exits = number
+        }
+    }
+    if head.routine == NO_LINE {
+        None
+    } else {
+        Some(head)
+    }
 }
 
 /// The head of the routine with the name.
-pub(crate) fn head_named<'d>(heads: &[Head<'d>], name: &str) -> Option<Head<'d>> {
-    heads.iter().find(|head| head.name == name).copied()
+pub(crate) fn head_named(document: &Document, name: &str) -> Option<Head> {
+    let mut line = NO_LINE;
+    for (number, text) in document.text.split("\n").enumerate() {
+        if routine_in(code_of(document, text)) == name {
+            line = number;
+            break;
+        }
+    }
+    if line == NO_LINE {
+        None
+    } else {
+        head_at(document, line)
+    }
+}
+
+/// The labels of a line, and its first word that is none, which is empty if there is no other word.
+fn parted(code: &str) -> (&str, &str) {
+    match instruction_in(0, code) {
+        Some(word) => (code.get(..word.start).unwrap_or(""), word.words()),
+        None => (code, ""),
+    }
+}
+
+/// Whether an instruction does more than to unlock.
+fn is_busy(word: &str) -> bool {
+    !word.is_empty() && word != "MUNLOCK" && word != "VUNLOCK" && word != "IUNLOCK"
 }
 
 /// The first word of a line that is no label.
@@ -95,73 +101,62 @@ pub(crate) fn instruction_in<'d>(line: usize, code: &'d str) -> Option<Span<'d>>
     None
 }
 
-/// Labels of a routine.
-#[derive(Drop)]
-struct Ends<'d> {
-    /// Those after which only unlocks have come so far.
-    open: Vec<&'d str>,
-    /// Those after which only unlocks come before RET.
-    found: Vec<&'d str>,
+/// The label with this number, counted from 0, of those before the code of a line. Empty if there is none.
+fn label_at(document: &Document, line: usize, number: usize) -> &str {
+    let (front, _word) = parted(code_of(document, document.line(line)));
+    let mut count: usize = 0;
+    for part in front.split(":") {
+        let part = part.trim();
+        if !part.is_empty() {
+            if count == number {
+                return part;
+            }
+            count = count.saturating_add(1);
+        }
+    }
+    ""
 }
 
-impl<'d> Ends<'d> {
-    fn clear(&mut self) {
-        self.open.clear();
-        self.found.clear()
-    }
-
-    /// Takes the labels of a line.
-    fn take_labels(&mut self, line: usize, code: &'d str) -> Result<(), AllocError> {
-        let mut from = 0;
-        for _ in 0..code.len() {
-            match next_word(line, code, from) {
-                Some(word) if code.as_bytes().get(word.end) == Some(&b':') => {
-                    self.open.push(word.words())?;
-                    from = word.end;
-                }
-                _ => return Ok(()),
-            }
+/// How many labels are before the code of a line.
+fn label_count(front: &str) -> usize {
+    let mut count: usize = 0;
+    for part in front.split(":") {
+        if !part.trim().is_empty() {
+            count = count.saturating_add(1);
         }
-        Ok(())
     }
-
-    /// Takes an instruction.
-    fn take(&mut self, word: &str) -> Result<(), AllocError> {
-        match word {
-            "MUNLOCK" | "VUNLOCK" | "IUNLOCK" => {}
-            "RET" => {
-                self.found.extend_from_slice(&self.open)?;
-                self.open.clear()
-            }
-            _ => self.open.clear(),
-        }
-        Ok(())
-    }
+    count
 }
 
-/// The labels of the routine that begins at a line after which only unlocks come before RET.
-pub(crate) fn end_labels<'d>(
-    alloc: Global,
-    document: &'d Document,
-    head: &Head<'_>,
-) -> Result<Vec<&'d str>, AllocError> {
-    let mut ends = Ends {
-        open: Vec::new(alloc),
-        found: Vec::new(alloc),
-    };
-    for (line, text) in document.text.split('\n').enumerate() {
-        let code = code_of(document, text);
-        let word = instruction_in(line, code).map_or("", |word| word.words());
-        if word == "routine" && line <= head.routine.line {
-            ends.clear()
-        } else if word == "routine" {
-            break;
-        } else {
-            ends.take_labels(line, code)?;
-            if !word.is_empty() {
-                ends.take(word)?;
+/// The label with this number, counted from 0, among those of the routine that begins at a line after which only unlocks come before RET.
+/// Empty if there is none.
+pub(crate) fn end_label<'d>(document: &'d Document, routine: usize, number: usize) -> &'d str {
+    // The line of the label, and how many labels come before that line.
+    let (mut at, mut before): (usize, usize) = (0, 0);
+    // How many labels there are, and after how many of them only unlocks come before RET. Only unlocks have come so far after the others.
+    let mut count: usize = 0;
+    let mut found: usize = 0;
+    for (line, text) in document.text.split("\n").enumerate() {
+        let (front, word) = parted(code_of(document, text));
+        if line > routine {
+            let next = count.saturating_add(label_count(front));
+            if count <= number && number < next {
+                (at, before) = (line, count);
+            }
+            count = next;
+            if word == "RET" {
+                found = count;
+            } else if is_busy(word) {
+                count = found;
+            }
+            if number < found || word == "routine" {
+                break;
             }
         }
     }
-    Ok(ends.found)
+    if number < found {
+        label_at(document, at, number.saturating_sub(before))
+    } else {
+        ""
+    }
 }

@@ -2,7 +2,8 @@
 
 use crate::documents::Document;
 use crate::edits::Mend;
-use crate::findings::{Finding, findings_of, number, object_in};
+use crate::findings::{Finding, findings_in, number, object_in, text_in};
+use crate::reply::Reply;
 use serde_json::Value;
 use std::alloc::{AllocError, Global};
 
@@ -22,16 +23,15 @@ struct Errors {
     bytes: u64,
 }
 
-/// A text member of an object.
-fn text_in<'v>(object: &'v Value, member: &str) -> &'v str {
-    object.get(member).and_then(Value::as_str).unwrap_or("")
-}
-
-/// The bytes of a pointer that a cure says for a line `in`: 8 in `say p0=s0:8 in the in line`.
-fn bytes_said(cure: &str) -> Option<u64> {
-    let (_, rest) = cure.strip_prefix("say p")?.split_once(":")?;
-    let (digits, _) = rest.split_once(" in the in line")?;
-    digits.parse().ok()
+/// The bytes of a pointer that a cure says for a line `in`: 8 in `say p0=s0:8 in the in line`. Otherwise 0.
+fn bytes_said(cure: &str) -> u64 {
+    match cure.split_once(" in the in line") {
+        Some((said, _)) if said.starts_with("say p") => match said.split_once(":") {
+            Some((_, digits)) => digits.parse().unwrap_or(0),
+            None => 0,
+        },
+        _ => 0,
+    }
 }
 
 impl Errors {
@@ -43,34 +43,35 @@ impl Errors {
         }
         self.count = self.count.saturating_add(1);
         self.has_faulty = self.has_faulty || refused.is_empty();
-        let is_there = number(object, "line") == Some(line);
-        self.has_asked = self.has_asked || (is_there && refused == rule);
-        let said = bytes_said(text_in(object, "cure")).unwrap_or(0);
-        self.bytes = self.bytes.max(said)
+        let is_asked = number(object, "line") == Some(line) && refused == rule;
+        self.has_asked = self.has_asked || is_asked;
+        self.bytes = self.bytes.max(bytes_said(text_in(object, "cure")))
     }
+}
 
-    /// The errors among objects. They are searched for one of a rule at a line.
-    fn among(alloc: Global, objects: &[u8], rule: &str, line: usize) -> Errors {
-        let mut errors = Errors {
-            count: 0,
-            has_faulty: false,
-            has_asked: false,
-            bytes: 0,
-        };
-        for object in objects.split(|byte| *byte == b'\n') {
-            if let Some(object) = object_in(alloc, object) {
-                errors.take(&object, rule, line)
-            }
+/// The errors among objects. They are searched for one of a rule at a line.
+fn errors_in(alloc: Global, objects: &[u8], rule: &str, line: usize) -> Errors {
+    let mut errors = Errors {
+        count: 0,
+        has_faulty: false,
+        has_asked: false,
+        bytes: 0,
+    };
+    for object in objects.split(|byte| *byte == b'\n') {
+        if let Some(object) = object_in(alloc, object) {
+            errors.take(&object, rule, line)
         }
-        errors
     }
+    errors
 }
 
 /// Tries edits of a document.
 #[derive(Drop)]
 pub(crate) struct Mender<'d> {
-    pub(crate) alloc: Global,
+    alloc: Global,
     pub(crate) document: &'d Document,
+    /// The edits that are tried.
+    pub(crate) mend: Mend,
     /// How many errors the document has.
     errors: usize,
     /// How many more edits are tried.
@@ -85,28 +86,40 @@ impl<'d> Mender<'d> {
         Mender {
             alloc,
             document,
-            errors: Errors::among(alloc, objects, "", 0).count,
+            mend: Mend::new(alloc),
+            errors: errors_in(alloc, objects, "", 0).count,
             left: MOST_TRIALS,
             bytes: 0,
         }
     }
 
+    /// The objects about the text after the edits.
+    fn objects(&self) -> Result<Vec<u8>, AllocError> {
+        let text = self.mend.applied(self.alloc, &self.document.text).finish()?;
+        findings_in(self.alloc, &self.document.uri, text)
+    }
+
     /// Whether the edits mend the finding: it is gone, there is an image, and fewer errors are left.
-    pub(crate) fn mends(
-        &mut self,
-        finding: &Finding<'_, '_>,
-        mend: &Mend<'_>,
-    ) -> Result<bool, AllocError> {
+    pub(crate) fn mends(&mut self, finding: &Finding<'_, '_>) -> bool {
         if self.left == 0 {
-            return Ok(false);
+            return false;
         }
         self.left -= 1;
-        let uri = String::from_str(self.alloc, &self.document.uri)?;
-        let text = mend.applied(self.alloc, &self.document.text)?;
-        let objects = findings_of(self.alloc, &Document { uri, text })?;
-        let line = mend.line_after(finding.span.line).saturating_add(1);
-        let errors = Errors::among(self.alloc, &objects, finding.text("rule"), line);
+        let objects = match self.objects() {
+            Ok(objects) => objects,
+            Err(AllocError) => {
+                self.mend.title.fail();
+                return false;
+            }
+        };
+        let line = self.mend.line_after(finding.span.line).saturating_add(1);
+        let errors = errors_in(self.alloc, &objects, finding.text("rule"), line);
         self.bytes = errors.bytes;
-        Ok(!errors.has_faulty && !errors.has_asked && errors.count < self.errors)
+        !errors.has_faulty && !errors.has_asked && errors.count < self.errors
+    }
+
+    /// Writes an action that makes the edits.
+    pub(crate) fn put(&self, out: &mut Reply, finding: &Finding<'_, '_>) {
+        self.mend.put(out, self.document, finding)
     }
 }

@@ -1,4 +1,4 @@
-//! JSON texts that are written part by part.
+//! Texts that are written part by part, mostly JSON.
 
 use sentence_text::Text;
 use serde_json::Value;
@@ -7,7 +7,7 @@ use std::alloc::{AllocError, Global};
 /// The digits of hexadecimal numbers.
 const DIGITS: [u8; 16] = *b"0123456789abcdef";
 
-/// Messages to the editor. After an allocation was refused, only that counts.
+/// A message to the editor, or a text that is made for it. After an allocation was refused, only that counts.
 #[derive(Drop)]
 pub(crate) struct Reply {
     pub(crate) alloc: Global,
@@ -17,7 +17,7 @@ pub(crate) struct Reply {
 }
 
 impl Reply {
-    /// No message.
+    /// Nothing was written.
     pub(crate) fn new(alloc: Global) -> Reply {
         Reply {
             alloc,
@@ -31,7 +31,27 @@ impl Reply {
         self.text.finish()
     }
 
-    /// A part that is JSON already.
+    /// What was written.
+    pub(crate) fn written(&self) -> &[u8] {
+        &self.text.bytes
+    }
+
+    /// Forgets what was written, but not that an allocation was refused.
+    pub(crate) fn clear(&mut self) {
+        self.text.bytes.clear()
+    }
+
+    /// Whether an allocation was refused.
+    pub(crate) fn has_failed(&self) -> bool {
+        self.text.failed
+    }
+
+    /// Bytes.
+    pub(crate) fn bytes(&mut self, bytes: &[u8]) {
+        self.text.put_bytes(bytes)
+    }
+
+    /// A part that is JSON already, or of another text than JSON.
     pub(crate) fn raw(&mut self, part: &str) {
         self.text.put(part)
     }
@@ -52,9 +72,9 @@ impl Reply {
                     DIGITS[usize::from(byte % 16)],
                 ];
                 self.raw("\\u00");
-                self.text.put_bytes(&digits)
+                self.bytes(&digits)
             }
-            _ => self.text.put_bytes(&[byte]),
+            _ => self.bytes(&[byte]),
         }
     }
 
@@ -63,19 +83,19 @@ impl Reply {
         self.text.failed = true;
     }
 
-    /// A part of a text in quotes.
-    pub(crate) fn part(&mut self, text: &str) {
-        for byte in text.bytes() {
-            self.put_escaped(byte);
-        }
-    }
-
     /// A text in quotes after a part that is JSON.
-    pub(crate) fn quoted(&mut self, json: &str, text: &str) {
+    pub(crate) fn quoted_bytes(&mut self, json: &str, text: &[u8]) {
         self.raw(json);
         self.raw("\"");
-        self.part(text);
+        for byte in text {
+            self.put_escaped(*byte);
+        }
         self.raw("\"")
+    }
+
+    /// The same of a text that is a string.
+    pub(crate) fn quoted(&mut self, json: &str, text: &str) {
+        self.quoted_bytes(json, text.as_bytes())
     }
 
     /// A value after a part: the id of a request.
