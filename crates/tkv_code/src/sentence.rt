@@ -241,7 +241,7 @@ static SENTENCES: [(Why, &str); 77] = [
     ),
     (
         Why::Public,
-        "a public routine is called only from outside, takes words and lent blocks, as b: vm, and returns no result",
+        "a public routine has no ? and no result, takes words and lent blocks, as b: vm, and no routine calls it; its else can print why, as in else { out(why)?; }",
     ),
     (
         Why::Kinds,
@@ -281,7 +281,7 @@ static SENTENCES: [(Why, &str); 77] = [
     ),
     (
         Why::Refused,
-        "the verifier refuses this by rule V#: test the index against its greatest value before it, as in if i <= 7 { .. }, or write ? after it",
+        "the verifier refuses this by rule V#: test the index against its greatest value before it, as in if i <= 7 { .. }, or write ? after the bracket, as in p.list[i]? = 3",
     ),
     (
         Why::NoSteps,
