@@ -23,11 +23,21 @@ struct Use<'t> {
     length: usize,
 }
 
+/// The offset of the first such byte.
+fn place_in(text: &[u8], wanted: u8) -> Option<usize> {
+    for (at, byte) in text.iter().enumerate() {
+        if *byte == wanted {
+            return Some(at);
+        }
+    }
+    None
+}
+
 /// The file that a line uses, if it uses one: `use` begins the line.
 fn use_of(line: &[u8]) -> Option<Use<'_>> {
     let quoted = line.strip_prefix(b"use ")?.trim_ascii_start();
     let rest = quoted.strip_prefix(b"\"")?;
-    let end = rest.iter().position(|byte| *byte == b'"')?;
+    let end = place_in(rest, b'"')?;
     let path = std::str::from_utf8(rest.get(..end)?).ok()?;
     let after = rest.get(end..)?.strip_prefix(b"\"")?;
     let behind = after.trim_ascii_start().strip_prefix(b";")?;
@@ -39,8 +49,21 @@ fn use_of(line: &[u8]) -> Option<Use<'_>> {
 
 /// Whether a line of the source uses a file.
 pub fn uses_files(text: &[u8]) -> bool {
-    text.split(|byte| *byte == b'\n')
-        .any(|line| use_of(line).is_some())
+    let mut start = 0;
+    for (at, byte) in text.iter().enumerate() {
+        if *byte == b'\n' {
+            if let Some(line) = text.get(start..at)
+                && use_of(line).is_some()
+            {
+                return true;
+            }
+            start = at.saturating_add(1);
+        }
+    }
+    match text.get(start..) {
+        Some(line) => use_of(line).is_some(),
+        None => false,
+    }
 }
 
 /// The path of a file that the file with the other path names.
