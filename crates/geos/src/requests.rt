@@ -398,7 +398,7 @@ fn work_on_text<'a>(
         } => assemble_all(rt, language.at(text), image),
         TextRequest::Budget(paths) => budget(rt, paths, language),
         TextRequest::Format(paths) => format(rt, paths, language),
-        TextRequest::List(path) => list(rt, language.at(path)),
+        TextRequest::List { image, assembly } => list(rt, language.at(image), assembly),
         TextRequest::Check(path) => check(rt, reports, language.at(path)),
         TextRequest::Explain(path) => explain(rt, language.at(path)),
         TextRequest::Page(paths) => explain_on_page(rt, paths, language),

@@ -264,6 +264,7 @@ Example:
 ====
 list Prints the image as text
 !IMAGE A file of an image's bytes, or of assembly text; `-` is the standard input
+-assembly Repeats each line of a source in a comment before its instructions
 :language=LANGUAGE The language of a text: `tkv` or `asm`; without it, `tkv` if the path ends with .tkv
 ====
 check Prints `accepted` if the image may run, or `sound` if a VM file is legal

@@ -152,8 +152,11 @@ pub enum TextRequest<'a> {
     Budget(NewText<'a>),
     /// To write a text with its words in columns.
     Format(NewText<'a>),
-    /// To print the listing of an image.
-    List(&'a str),
+    /// To print the listing of an image, perhaps with the lines of its source.
+    List {
+        image: &'a str,
+        assembly: bool,
+    },
     /// To say whether an image may run.
     Check(&'a str),
     /// To print the explanation of an image.

@@ -49,7 +49,10 @@ pub(crate) fn text_request<'a>(name: &str, given: &Given<'_, 'a>) -> Option<Text
         "asm" => asm_of(given),
         "budget" => TextRequest::Budget(new_text_of(given)),
         "fmt" => TextRequest::Format(new_text_of(given)),
-        "list" => TextRequest::List(given.word("IMAGE")),
+        "list" => TextRequest::List {
+            image: given.word("IMAGE"),
+            assembly: given.flag("assembly"),
+        },
         "check" => TextRequest::Check(given.word("IMAGE")),
         "explain" => explain_of(given),
         _ => return None,

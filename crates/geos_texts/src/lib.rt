@@ -13,6 +13,7 @@ mod limited;
 mod no_rows;
 mod requests;
 mod runnable;
+mod source_lines;
 mod sources;
 
 pub use fault::{FaultyText, Refused, TextFault};

@@ -7,6 +7,7 @@ use crate::commands::{
 use crate::fault::{FaultyText, Refused, TextFault};
 use crate::grants::effect_lines;
 use crate::runnable::{Runnable, Unmarked, read_completed, read_unmarked};
+use crate::source_lines::with_source_lines;
 use crate::sources::formatted_source;
 use geos_asm::{AssembleError, Assembled, BudgetError, Budgeted, completed, find_budgets};
 use geos_input::{MOST_BYTES, ScriptFault};
@@ -223,11 +224,21 @@ pub fn read_and_warn<'a>(
     Ok(image)
 }
 
-/// Prints the listing of an image, or of the image of a text, and comments with the effects of each routine. `TextFault::Read` if the bytes begin as an image does and are none.
-pub fn list<'a>(rt: &HostRuntime, from: TextPath<'a>) -> Result<(), TextFault<'a>> {
-    let image = Runnable::read(rt, from)?.image;
-    let text = list_bytes(rt.alloc(), &image)?;
-    let effects = effect_lines(rt.alloc(), &image)?;
+/// Prints the listing of an image, or of the image of a text, and comments with the effects of each routine. `with_source` puts the lines of a
+/// source before the instructions that were made of them. `TextFault::Read` if the bytes begin as an image does and are none.
+pub fn list<'a>(
+    rt: &HostRuntime,
+    from: TextPath<'a>,
+    with_source: bool,
+) -> Result<(), TextFault<'a>> {
+    let made = Runnable::read(rt, from)?;
+    let listing = list_bytes(rt.alloc(), &made.image)?;
+    let text = if with_source && made.is_of_source() {
+        with_source_lines(rt.alloc(), &listing, &made)?
+    } else {
+        listing
+    };
+    let effects = effect_lines(rt.alloc(), &made.image)?;
     print(rt, &text)?;
     Ok(print(rt, &effects)?)
 }
