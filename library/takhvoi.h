@@ -317,6 +317,13 @@ TAKHVOI_CALL uint32_t takhvoi_explain(const uint8_t *image, size_t image_len, ui
  * `place`. `column` counts bytes of that line from 1, and is 0 if the whole line is meant. Both are told with SHORT_BUFFER too. */
 TAKHVOI_CALL uint32_t takhvoi_explain_text(const uint8_t *text, size_t text_len, uint8_t *into, size_t room, uint64_t *told, uint64_t *line,
                                            uint64_t *column);
+/* Compiles a source of the structured language to an image that the verifier accepts. If the source has a fault, the answer is BAD_IMAGE, and
+ * `told` is the line of the first fault. A source may use the library `std`, but no other file. */
+TAKHVOI_CALL uint32_t takhvoi_compile(const uint8_t *source, size_t source_len, uint8_t *into, size_t room, uint64_t *told);
+/* Writes the first fault of a source as a line of text, `line 2, column 5: ..`, and tells its line and column. If the source has no fault, all
+ * three numbers are 0. Line and column are told with SHORT_BUFFER too. */
+TAKHVOI_CALL uint32_t takhvoi_explain_source(const uint8_t *source, size_t source_len, uint8_t *into, size_t room, uint64_t *told,
+                                             uint64_t *line, uint64_t *column);
 
 /* What a debugger or an editor shows. These calls write records: as many as there is room for, and the rest of `into` is left as it was. `count`
  * tells how many there are. Offsets and sizes are in bytes. They change nothing, except takhvoi_trace and takhvoi_memory_at, which run a

@@ -488,6 +488,8 @@ template <typename Made, typename Call> Result<Made> made(Bytes from, Call call)
 /// The image of an assembly text. The fault's place is the line of a fault (TAKHVOI_BAD_IMAGE), or of a routine for which no rows are found
 /// (TAKHVOI_REFUSED).
 inline Result<std::vector<std::uint8_t>> assemble(Bytes text) { return detail::made<std::vector<std::uint8_t>>(text, takhvoi_assemble); }
+/// The image of a source of the structured language. The fault's place is the line of a fault (TAKHVOI_BAD_IMAGE).
+inline Result<std::vector<std::uint8_t>> compile(Bytes source) { return detail::made<std::vector<std::uint8_t>>(source, takhvoi_compile); }
 /// The listing of an image; the same with what is known at each instruction, and where it is refused, why.
 inline Result<std::string> list(Bytes image) { return detail::made<std::string>(image, takhvoi_list); }
 inline Result<std::string> explain(Bytes image) { return detail::made<std::string>(image, takhvoi_explain); }
@@ -499,14 +501,23 @@ struct Explanation {
     std::uint64_t line;
     std::uint64_t column;
 };
-inline Result<Explanation> explain_text(Bytes text) {
+namespace detail {
+
+/// What such a call says of a text.
+template <typename Call> Result<Explanation> explained(Bytes text, Call call) {
     std::uint64_t line = 0, column = 0;
-    auto made = detail::made<std::string>(text, [&](const std::uint8_t *from, std::size_t size, std::uint8_t *into, std::size_t room, std::uint64_t *told) {
-        return takhvoi_explain_text(from, size, into, room, told, &line, &column);
+    auto said = made<std::string>(text, [&](const std::uint8_t *from, std::size_t size, std::uint8_t *into, std::size_t room, std::uint64_t *told) {
+        return call(from, size, into, room, told, &line, &column);
     });
-    if (!made) return made.fault();
-    return Explanation{std::move(*made), line, column};
+    if (!said) return said.fault();
+    return Explanation{std::move(*said), line, column};
 }
+
+} // namespace detail
+
+inline Result<Explanation> explain_text(Bytes text) { return detail::explained(text, takhvoi_explain_text); }
+/// The first fault of a source of the structured language; empty, with line 0, if there is none.
+inline Result<Explanation> explain_source(Bytes source) { return detail::explained(source, takhvoi_explain_source); }
 
 } // namespace takhvoi
 

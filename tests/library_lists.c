@@ -118,11 +118,53 @@ static void texts(void) {
     printf("an image is explained in %s\n", told > 0 && into[told - 1] == '\n' ? "lines" : "no line");
 }
 
+static void source_faults(const char *source, uint64_t at_line, uint64_t at_column, const char *holds) {
+    static uint8_t into[4096];
+    uint64_t told, line, column, wanted;
+    size_t len = strlen(source);
+    want(takhvoi_compile((const uint8_t *)source, len, into, sizeof into, &told), TAKHVOI_BAD_IMAGE, "a faulty source");
+    if (told != at_line) printf("another line: %u\n", (unsigned)told);
+    memset(into, 1, sizeof into);
+    DONE(takhvoi_explain_source((const uint8_t *)source, len, into, sizeof into - 1, &wanted, &line, &column));
+    if (into[wanted] != 1 || into[wanted - 1] != '\n') printf("it wrote past what it told, or no line\n");
+    into[wanted] = 0;
+    if (line != at_line || column != at_column || !strstr((char *)into, holds)) printf("%u:%u: %s", (unsigned)line, (unsigned)column, into);
+    memset(into, 1, sizeof into);
+    line = 99;
+    want(takhvoi_explain_source((const uint8_t *)source, len, into, (size_t)wanted - 1, &told, &line, &column), TAKHVOI_SHORT_BUFFER, "a byte too few");
+    if (told != wanted || into[0] != 1 || line != at_line) printf("with too little room it tells something else\n");
+}
+
+static void sources(void) {
+    static uint8_t image[4096];
+    const char *twice = "use std;\npub fn twice(n) { out(mul(n, 2))?; }\n";
+    uint64_t len, told, line = 9, column = 9;
+    uint32_t number, rule, count, steps;
+    uint16_t routine, words[8] = {21}, lent[4] = {0}, put = 0;
+    takhvoi_kernel k = TAKHVOI_NONE;
+    DONE(takhvoi_compile((const uint8_t *)twice, strlen(twice), image, sizeof image, &len));
+    want(takhvoi_compile((const uint8_t *)twice, strlen(twice), image, 9, &told), TAKHVOI_SHORT_BUFFER, "an image in nine bytes");
+    if (told != len) printf("with too little room it tells something else\n");
+    DONE(takhvoi_explain_source((const uint8_t *)twice, strlen(twice), NULL, 0, &told, &line, &column));
+    if (told || line || column) printf("a fault of a source without one\n");
+    DONE(takhvoi_new(&k, 512, 65536));
+    DONE(takhvoi_load(&k, image, (size_t)len, &number, &told, &rule));
+    DONE(takhvoi_routine(&k, number, (const uint8_t *)"twice", 5, &routine));
+    DONE(takhvoi_run(&k, number, routine, words, lent, &put, 1, &count, &steps));
+    printf("a source is compiled, and outputs %u\n", put);
+    DONE(takhvoi_close(&k));
+    source_faults("pub fn f() {\n    out(n)?;\n}\n", 2, 9, "n");
+    source_faults("pub fn f() {\n    let b = mnew()? {\n", 2, 21, "");
+    source_faults("use \"other.tkv\";\n", 1, 5, "std");
+    source_faults("", 1, 1, "routine");
+}
+
 int main(void) {
     takhvoi_kernel k = TAKHVOI_NONE;
     DONE(takhvoi_new(&k, 1 << 16, 1 << 20));
     lists(&k);
     DONE(takhvoi_close(&k));
     texts();
+    sources();
     return 0;
 }

@@ -96,6 +96,12 @@ void routines(Kernel &kernel) {
     check(list(image).value().find("routine add") != std::string::npos && explain(image).value().find("ADD") != std::string::npos, "texts");
     auto said = explain_text("routine f public budget 1\n ldi w0 5\n");
     check(said.has_value() && said->line == 2 && said->column == 2 && !said->text.empty(), "what is wrong with a text");
+    const auto compiled = compile("pub fn double(n) { out(n + n)?; }").value();
+    const Image doubles = kernel.load(compiled).value();
+    check(doubles.routine("double").value().output_of({21}).value() == std::vector<std::uint16_t>{42}, "a compiled source");
+    const auto fault = explain_source("pub fn f() {\n    out(n)?;\n}\n").value();
+    check(fault.line == 2 && fault.column == 9 && fault.text.back() == '\n', "the fault of a source");
+    check(explain_source("pub fn f() { }").value().text.empty() && compile("x").fault().place == 1, "sources with and without a fault");
     const auto bad = assemble("routine f public budget 1\n x\n");
     check(bad.status() == TAKHVOI_BAD_IMAGE && bad.fault().place == 2, "the line of a fault");
     check(kernel.load("none").status() == TAKHVOI_BAD_IMAGE, "no image");

@@ -19,6 +19,8 @@ static void try_texts(void) {
     WANT(TAKHVOI_SHORT_BUFFER, takhvoi_assemble(text, sizeof text - 1, NULL, 0, &told));
     WANT(TAKHVOI_BAD_IMAGE, takhvoi_assemble(NULL, 0, image, sizeof image, &told));
     WANT(TAKHVOI_BAD_IMAGE, takhvoi_list(NULL, 0, NULL, 0, &told));
+    REFUSED(takhvoi_compile(NULL, 1, image, sizeof image, &told));
+    REFUSED(takhvoi_explain_source(text, sizeof text - 1, image, sizeof image, &told, NULL, &told));
 }
 
 static void try_chunks(takhvoi_kernel *kernel) {

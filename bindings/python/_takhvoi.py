@@ -169,7 +169,8 @@ _CALLS = {
     (U32, U16, _OUT16, _OUT16, _OUT16, _SIZE, _OUT32, _OUT32, U32, _STATES, _SIZE): "trace",
     (U32, U16, _OUT16, _OUT16, U32, _PLACES, _SIZE, _OUT32, _ROOM, _SIZE): "memory_at",
 }
-_TEXT_CALLS = "assemble list explain"
+_TEXT_CALLS = "assemble compile list explain"
+_EXPLAIN_CALLS = "explain_text explain_source"
 _SHOWN_CALLS = {
     (_OUT32, _SIZE, _OUT64): "lines",
     (_FINDINGS, _SIZE, _OUT32, _ROOM, _SIZE, _OUT64): "findings",
@@ -188,7 +189,7 @@ def _declared(library: ctypes.CDLL) -> ctypes.CDLL:
     takers = [((_KERNEL, *takes), names) for takes, names in _CALLS.items()]
     on_texts = (_BYTES, _SIZE, _ROOM, _SIZE, _OUT64)
     shown = [((_BYTES, _SIZE, *takes), names) for takes, names in _SHOWN_CALLS.items()]
-    for takes, names in [*takers, *shown, (on_texts, _TEXT_CALLS), ((*on_texts, _OUT64, _OUT64), "explain_text")]:
+    for takes, names in [*takers, *shown, (on_texts, _TEXT_CALLS), ((*on_texts, _OUT64, _OUT64), _EXPLAIN_CALLS)]:
         for name in names.split():
             call = getattr(library, "takhvoi_" + name)
             call.argtypes, call.restype = takes, U32

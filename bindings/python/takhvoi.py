@@ -27,7 +27,8 @@ from _takhvoi import BAD_FILE, BAD_IMAGE, NO_KERNEL, NOT_ADMITTED, NOT_GRANTED, 
 from _takhvoi import Error, RawFile, bytes_of, library, room, sixteen
 
 __version__ = "0.1.0"
-__all__ = ["Array", "Chunk", "Effect", "Error", "Explanation", "Image", "Kernel", "LockedBlock", "Outcome", "assemble", "explain", "explain_text", "list_image"]
+__all__ = ["Array", "Chunk", "Effect", "Error", "Explanation", "Image", "Kernel", "LockedBlock", "Outcome", "assemble", "compile_source", "explain", "explain_source", "explain_text",
+           "list_image"]
 
 REGION = 1 << 20
 AREA = 1 << 16
@@ -532,6 +533,11 @@ def assemble(text: Union[str, Data]) -> bytes:
     return _made(library.takhvoi_assemble, text.encode() if isinstance(text, str) else bytes(text))
 
 
+def compile_source(source: Union[str, Data]) -> bytes:
+    """The image of a source of the structured language. An Error's place is the line of a fault."""
+    return _made(library.takhvoi_compile, source.encode() if isinstance(source, str) else bytes(source))
+
+
 def list_image(image: Data) -> str:
     """The listing of an image, an assembly text."""
     return _made(library.takhvoi_list, bytes(image)).decode()
@@ -554,7 +560,16 @@ class Explanation(NamedTuple):
 def explain_text(text: Union[str, Data]) -> Explanation:
     """The lines of a text with what is known at each instruction, and why the verifier refuses its image, if it does; or what is wrong with each
     faulty line; or why no rows are found."""
+    return _explained(library.takhvoi_explain_text, text)
+
+
+def explain_source(source: Union[str, Data]) -> Explanation:
+    """The first fault of a source of the structured language; an empty text if there is none."""
+    return _explained(library.takhvoi_explain_source, source)
+
+
+def _explained(call: Callable[..., int], text: Union[str, Data]) -> Explanation:
     line, column = ctypes.c_uint64(), ctypes.c_uint64()
     given = text.encode() if isinstance(text, str) else bytes(text)
-    said = _made(lambda *takes: library.takhvoi_explain_text(*takes, line, column), given)
+    said = _made(lambda *takes: call(*takes, line, column), given)
     return Explanation(said.decode(errors="replace"), line.value or None, column.value or None)

@@ -209,6 +209,10 @@ class Blocks(unittest.TestCase):
         self.assertIn("RET", said.text)
         self.assertEqual((said.line, said.column), (None, None))
         self.assertEqual(takhvoi.explain_text("routine f public budget 1\n ldi w0 5\n")[1:], (2, 2))
+        source = "pub fn double(n) {\n    out(n + n)?;\n}\n"
+        self.assertIn("routine double", takhvoi.list_image(takhvoi.compile_source(source)))
+        self.assertEqual(takhvoi.explain_source(source), ("", None, None))
+        self.assertEqual(takhvoi.explain_source(source.replace("n + n", "m"))[1:], (2, 9))
         callee = "routine f budget 65535\n RET\n"
         said = takhvoi.explain_text(callee + "routine g public budget 90\n SETK k0 65535\n JMP b\na: BEQ w0 w1 b\n CALL f\nb: LOOP k0 a\n RET\n")
         self.assertIn("CALL f at line 7 pays its budget", said.text)
@@ -216,6 +220,7 @@ class Blocks(unittest.TestCase):
         for call, number, place in (
             (lambda: takhvoi.assemble("routine f public budget x"), 112, 1),
             (lambda: takhvoi.assemble("\nroutine f public budget 9\nagain:\n JMP again\n"), 113, 2),
+            (lambda: takhvoi.compile_source(source.replace("n + n", "m")), 112, 2),
             (lambda: self.kernel.load(b"none"), 112, 0),
         ):
             with self.assertRaises(Error) as refused:
@@ -324,7 +329,7 @@ class Header(unittest.TestCase):
             self.assertEqual(numbers[name], getattr(_takhvoi, name))
         declared = set(re.findall(r"uint32_t takhvoi_(\w+)\(", header))
         shown = _takhvoi._SHOWN_CALLS.values()
-        called = {name for names in [*_takhvoi._CALLS.values(), *shown, _takhvoi._TEXT_CALLS, "explain_text abi"] for name in names.split()}
+        called = {name for names in [*_takhvoi._CALLS.values(), *shown, _takhvoi._TEXT_CALLS, _takhvoi._EXPLAIN_CALLS, "abi"] for name in names.split()}
         # What stands on these in the file's calls.
         below = {"close", "update", "save", "revert", "create", "open", "run", "step", "step_bytes", "performed"}
         self.assertEqual(declared - below, called)

@@ -122,4 +122,4 @@ pub use error::{Error, Result};
 pub use images::{effects, Image, Lent, Outcome, Routine};
 pub use kernel::{Kernel, Memory, Name, Sizes, VmFile};
 pub use shown::{findings, lines, Entry, Finding, Place, RoutineEntry, ShownChunk, State};
-pub use texts::{assemble, explain, explain_text, list, Explanation};
+pub use texts::{assemble, compile, explain, explain_source, explain_text, list, Explanation};

@@ -283,6 +283,16 @@ extern "C" {
         line: *mut u64,
         column: *mut u64,
     ) -> u32;
+    pub fn takhvoi_compile(source: *const u8, source_len: usize, into: *mut u8, room: usize, told: *mut u64) -> u32;
+    pub fn takhvoi_explain_source(
+        source: *const u8,
+        source_len: usize,
+        into: *mut u8,
+        room: usize,
+        told: *mut u64,
+        line: *mut u64,
+        column: *mut u64,
+    ) -> u32;
     pub fn takhvoi_file_flush(file: *mut RawFile) -> u32;
     pub fn takhvoi_file_close(file: *mut RawFile) -> u32;
     pub fn takhvoi_file_open(file: *mut RawFile, path: *const c_char, region: u32, fault: *mut u64) -> u32;

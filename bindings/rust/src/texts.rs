@@ -51,6 +51,28 @@ pub fn assemble(text: impl AsRef<[u8]>) -> Result<Vec<u8>> {
         .map_err(|(status, line)| fault(status, Error::BadText { line }, Error::NoRows { line }))
 }
 
+/// The image of a source of the structured language.
+///
+/// ```
+/// use takhvoi::{compile, Error, Kernel};
+///
+/// # fn main() -> takhvoi::Result<()> {
+/// let image = compile("pub fn double(n) { out(n + n)?; }")?;
+/// let kernel = Kernel::in_memory(Default::default())?;
+/// let image = kernel.load(&image)?;
+/// let double = kernel.routine(&image, "double")?;
+/// let mut output = [0];
+/// kernel.run(double, [21, 0, 0, 0, 0, 0, 0, 0], [None; 4], &mut output)?;
+/// assert_eq!(output, [42]);
+/// assert_eq!(compile("pub fn f() {\n    out(n)?;\n}\n"), Err(Error::BadText { line: 2 }));
+/// # Ok(())
+/// # }
+/// ```
+pub fn compile(source: impl AsRef<[u8]>) -> Result<Vec<u8>> {
+    made(source.as_ref(), |source, len, into, room, told| unsafe { raw::takhvoi_compile(source, len, into, room, told) })
+        .map_err(|(status, line)| fault(status, Error::BadText { line }, Error::Other(status)))
+}
+
 /// The listing of an image, an assembly text.
 pub fn list(image: &[u8]) -> Result<Vec<u8>> {
     made(image, |image, len, into, room, told| unsafe { raw::takhvoi_list(image, len, into, room, told) })
@@ -83,10 +105,27 @@ pub struct Explanation {
 /// # Ok::<(), takhvoi::Error>(())
 /// ```
 pub fn explain_text(text: impl AsRef<[u8]>) -> Result<Explanation> {
+    explained(text.as_ref(), raw::takhvoi_explain_text)
+}
+
+/// The first fault of a source of the structured language, with its place; an empty text if there is none.
+///
+/// ```
+/// let said = takhvoi::explain_source("pub fn f() {\n    out(n)?;\n}\n")?;
+/// assert_eq!((said.line, said.column), (Some(2), Some(9)));
+/// # Ok::<(), takhvoi::Error>(())
+/// ```
+pub fn explain_source(source: impl AsRef<[u8]>) -> Result<Explanation> {
+    explained(source.as_ref(), raw::takhvoi_explain_source)
+}
+
+/// A call of the library that explains a text.
+type Explain = unsafe extern "C" fn(*const u8, usize, *mut u8, usize, *mut u64, *mut u64, *mut u64) -> u32;
+
+/// What such a call says of a text.
+fn explained(text: &[u8], call: Explain) -> Result<Explanation> {
     let (mut line, mut column) = (0, 0);
-    let made = made(text.as_ref(), |text, len, into, room, told| unsafe {
-        raw::takhvoi_explain_text(text, len, into, room, told, &mut line, &mut column)
-    });
+    let made = made(text, |text, len, into, room, told| unsafe { call(text, len, into, room, told, &mut line, &mut column) });
     let text = made.map_err(|(status, _)| fault(status, Error::Other(status), Error::Other(status)))?;
     Ok(Explanation { text, line: (line != 0).then_some(line), column: (column != 0).then_some(column) })
 }

@@ -1,5 +1,6 @@
 -- The results of calls on texts and images.
-use Rattle.std.specs.Prelude.{◌≡◌, ◌<◌, ◌≤◌, ◌-◌, ◌⊎◌, ℕ, true, List, length, Ok, Err, Some, slice_get, slice_index_or}
+use Rattle.std.specs.Prelude.{◌≡◌, ◌==◌, ◌<◌, ◌≤◌, ◌+◌, ◌-◌, ◌⊎◌, ℕ, true, List, length, take, Ok, Err, Some, slice_get, slice_index_or}
+use Rattle.std.specs.List.{count_by}
 use Rattle.lmem_raw.specs.Bytes.{with_part}
 use Rattle.geos_image.specs.Parts.{Parts}
 use Rattle.geos_image.specs.Reading.{image_at}
@@ -58,6 +59,14 @@ IsAccepted text = (image : Parts) × IsAssembled text image × IsChecked image
 abbrev pub IsRefusedAt : List ℕ → ℕ → Type 0
 IsRefusedAt text line = (image : Parts) × (reject : Reject) × IsAssembled text image × FirstRefusal image reject
     × (line ≡ slice_index_or (instr_lines text) reject.pc 0)
+
+-- the bytes encode an image that the verifier accepts
+abbrev pub IsAcceptedImage : List ℕ → Type 0
+IsAcceptedImage bytes = (image : Parts) × (image_at bytes ≡ Ok image) × IsChecked image
+
+-- the text has a line with this number
+abbrev pub HasLine : List ℕ → ℕ → Type 0
+HasLine text line = (at : ℕ) × (line ≡ count_by (λ byte. byte == 10) (take at text) + 1)
 
 -- the line is that of the text's first fault, or of a routine for which no rows are found, or of the first instruction that is refused;
 -- and 0 if there is none of these

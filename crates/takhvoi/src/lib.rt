@@ -25,6 +25,7 @@ mod loose;
 mod places;
 mod records;
 mod routines;
+mod sources;
 mod status;
 mod system;
 mod texts;
