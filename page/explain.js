@@ -93,8 +93,9 @@ function list_findings() {
   const items = explained.findings.slice(0, MOST_LISTED).map((f) => node("li", { class: f.kind }, node("a", { href: "#" + f.id },
     node("span", { class: "place" }, f.at ? `${place_word} ${f.at.number}` : "text"), node("span", { class: "rule" }, f.rule || ""),
     node("span", { class: "said" }, shown(f.message.split(": ")[0])))));
-  const more = explained.findings.length - items.length + explained.more;
-  if (more > 0) items.push(node("li", { class: "rest quiet" }, `${more} more`));
+  const rest = explained.findings.length - items.length;
+  if (rest > 0) items.push(node("li", { class: "rest quiet" }, `${rest} more, at their lines`));
+  if (explained.more > 0) items.push(node("li", { class: "rest quiet" }, `${explained.more} more, which the page leaves out`));
   if (explained.findings.length > 1) $("findings").replaceChildren(node("ol", {}, ...items));
   $("findings").hidden = explained.findings.length < 2;
 }

@@ -34,6 +34,7 @@ const KINDS_OF_BLOCKS = { mem: "a block of memory", vm: "a block of the VM file"
 const LEGEND = [
   [/\bw\d<=\d+/, (item, [word, most]) => `w${word} is at most ${most}`],
   [/\bs\d=(mem|vm|db)[@!]*/, (item, [slot]) => `slot s${slot} has ${KINDS_OF_BLOCKS[/mem|vm|db/.exec(item)]}`],
+  [/\bs\d#s\d/, (item, [one, other]) => `slots s${one} and s${other} have different blocks`],
   [/\bp\d=s\d:\d+/, (item, [pointer, slot, bytes]) => `pointer p${pointer} leads to ${bytes} bytes or more of the block in s${slot}`],
 ];
 

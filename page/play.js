@@ -110,7 +110,7 @@ class Play {
     if (!found) return node("div", { class: "fault" }, node("p", {}, this.end_words(machine)));
     const since = [this.set_words(target, found), target.stale && this.since_words(found.pointer, target.stale)].filter((said) => said);
     return node("div", { class: "fault" }, node("p", {}, this.end_words(machine)), node("p", { class: "since" }, since.join(" ")),
-      target.stale && this.compared(found), this.effect(machine, found));
+      target.stale && this.compared(found, target.set), this.effect(machine, found));
   }
 
   since_words(pointer, { step, pc }) {
@@ -125,13 +125,15 @@ class Play {
   }
 
   /** What the pointer was set to, beside what lies at its place now. */
-  compared({ pointer, at, found, lies, meant, meant_at, meant_bytes }) {
+  compared({ pointer, at, count, found, lies, meant, meant_at, meant_bytes }, set) {
     const row = (name, meant_cell, found_cell) => node("tr", {}, node("th", { scope: "row" }, name), node("td", {}, meant_cell), node("td", {}, found_cell));
     const is_there = meant_at !== null;
+    // The bytes that the pointer led to when it was set: their chunk may be gone.
+    const led_to = hex_bytes(this.machine_at(set).kernel.blocks.region.slice(at, at + count));
     return node("table", { class: "compared" },
       node("thead", {}, node("tr", {}, node("th", {}, ""), node("th", { scope: "col" }, `p${pointer} was set to`), node("th", { scope: "col" }, "what is there now"))),
-      node("tbody", {}, row("what", meant, lies), row("place in the region", is_there ? String(meant_at) : "gone", String(at)),
-        row("bytes", is_there ? hex_bytes(meant_bytes) : "none", hex_bytes(found))));
+      node("tbody", {}, row("what", meant, lies), row("place in the region", is_there ? String(meant_at) : `${at}, gone`, String(at)),
+        row("bytes", is_there ? hex_bytes(meant_bytes) : `${led_to}, gone`, hex_bytes(found))));
   }
 
   /** What the instruction would do. */

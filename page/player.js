@@ -47,8 +47,9 @@ class Player {
     });
     const more = moments.length - items.length;
     if (more > 0) items.push(node("li", { class: "quiet" }, `${more} more`));
+    if (!items.length) items.push(node("li", { class: "quiet" }, "No block moves, and no pointer becomes stale."));
     $("moments").replaceChildren(...items);
-    $("moments").hidden = !items.length;
+    $("moments").hidden = !this.run.states.length;
   }
 
   listen() {

@@ -134,6 +134,7 @@ const KINDS_OF_BLOCKS = { mem: \"a block of memory\", vm: \"a block of the VM fi
 const LEGEND = [
   [/\\bw\\d<=\\d+/, (item, [word, most]) => `w${word} is at most ${most}`],
   [/\\bs\\d=(mem|vm|db)[@!]*/, (item, [slot]) => `slot s${slot} has ${KINDS_OF_BLOCKS[/mem|vm|db/.exec(item)]}`],
+  [/\\bs\\d#s\\d/, (item, [one, other]) => `slots s${one} and s${other} have different blocks`],
   [/\\bp\\d=s\\d:\\d+/, (item, [pointer, slot, bytes]) => `pointer p${pointer} leads to ${bytes} bytes or more of the block in s${slot}`],
 ];
 
@@ -2033,7 +2034,7 @@ class Play {
     if (!found) return node(\"div\", { class: \"fault\" }, node(\"p\", {}, this.end_words(machine)));
     const since = [this.set_words(target, found), target.stale && this.since_words(found.pointer, target.stale)].filter((said) => said);
     return node(\"div\", { class: \"fault\" }, node(\"p\", {}, this.end_words(machine)), node(\"p\", { class: \"since\" }, since.join(\" \")),
-      target.stale && this.compared(found), this.effect(machine, found));
+      target.stale && this.compared(found, target.set), this.effect(machine, found));
   }
 
   since_words(pointer, { step, pc }) {
@@ -2048,13 +2049,15 @@ class Play {
   }
 
   /** What the pointer was set to, beside what lies at its place now. */
-  compared({ pointer, at, found, lies, meant, meant_at, meant_bytes }) {
+  compared({ pointer, at, count, found, lies, meant, meant_at, meant_bytes }, set) {
     const row = (name, meant_cell, found_cell) => node(\"tr\", {}, node(\"th\", { scope: \"row\" }, name), node(\"td\", {}, meant_cell), node(\"td\", {}, found_cell));
     const is_there = meant_at !== null;
+    // The bytes that the pointer led to when it was set: their chunk may be gone.
+    const led_to = hex_bytes(this.machine_at(set).kernel.blocks.region.slice(at, at + count));
     return node(\"table\", { class: \"compared\" },
       node(\"thead\", {}, node(\"tr\", {}, node(\"th\", {}, \"\"), node(\"th\", { scope: \"col\" }, `p${pointer} was set to`), node(\"th\", { scope: \"col\" }, \"what is there now\"))),
-      node(\"tbody\", {}, row(\"what\", meant, lies), row(\"place in the region\", is_there ? String(meant_at) : \"gone\", String(at)),
-        row(\"bytes\", is_there ? hex_bytes(meant_bytes) : \"none\", hex_bytes(found))));
+      node(\"tbody\", {}, row(\"what\", meant, lies), row(\"place in the region\", is_there ? String(meant_at) : `${at}, gone`, String(at)),
+        row(\"bytes\", is_there ? hex_bytes(meant_bytes) : `${led_to}, gone`, hex_bytes(found))));
   }
 
   /** What the instruction would do. */
@@ -2358,7 +2361,7 @@ function play_part(program, routine) {
   const number = program.number_of(routine.name);
   const is_refused = routine.lines.some((line) => line.findings.some(({ kind }) => kind === \"error\"));
   if (number < 0 || !is_refused) return null;
-  const button = node(\"button\", { type: \"button\", class: \"play-button\", \"aria-expanded\": \"false\" }, \"Play this routine in a model\");
+  const button = node(\"button\", { type: \"button\", class: \"play-button\", \"aria-expanded\": \"false\" }, \"See the fault: play this routine in a model\");
   const part = node(\"div\", { class: \"play-part\" }, button);
   button.addEventListener(\"click\", () => {
     const is_open = button.getAttribute(\"aria-expanded\") === \"true\";
@@ -2470,8 +2473,9 @@ function list_findings() {
   const items = explained.findings.slice(0, MOST_LISTED).map((f) => node(\"li\", { class: f.kind }, node(\"a\", { href: \"#\" + f.id },
     node(\"span\", { class: \"place\" }, f.at ? `${place_word} ${f.at.number}` : \"text\"), node(\"span\", { class: \"rule\" }, f.rule || \"\"),
     node(\"span\", { class: \"said\" }, shown(f.message.split(\": \")[0])))));
-  const more = explained.findings.length - items.length + explained.more;
-  if (more > 0) items.push(node(\"li\", { class: \"rest quiet\" }, `${more} more`));
+  const rest = explained.findings.length - items.length;
+  if (rest > 0) items.push(node(\"li\", { class: \"rest quiet\" }, `${rest} more, at their lines`));
+  if (explained.more > 0) items.push(node(\"li\", { class: \"rest quiet\" }, `${explained.more} more, which the page leaves out`));
   if (explained.findings.length > 1) $(\"findings\").replaceChildren(node(\"ol\", {}, ...items));
   $(\"findings\").hidden = explained.findings.length < 2;
 }

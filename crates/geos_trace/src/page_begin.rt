@@ -83,8 +83,7 @@ main { display: grid; grid-template-columns: minmax(0, 9fr) minmax(0, 10fr); gap
 #lines .code { white-space: pre-wrap; overflow-wrap: anywhere; tab-size: 8; }
 #lines .plain .code { grid-column: 2 / -1; }
 #lines .comment { color: var(--faint); }
-#lines .known { color: var(--soft); font-size: 11.5px; padding: 0 8px; overflow: hidden; text-overflow: ellipsis; white-space: nowrap; }
-#lines .now .known { white-space: normal; overflow-wrap: anywhere; }
+#lines .known { color: var(--soft); font-size: 11.5px; padding: 0 8px; overflow-wrap: anywhere; }
 #lines .known .s { color: var(--blue); }
 #lines .known .p { color: var(--good); }
 #lines .can { cursor: pointer; }

@@ -198,10 +198,19 @@ class Run {
     });
   }
 
-  // Pointers that are stale since the step before a place, and why.
+  // Pointers that are stale since the step before a place, and why: its instruction moved their block, or may move their chunks.
   stale_since(place) {
-    const names = this.targets[place].flatMap((target, n) => target && place && target.stale === place ? [\"p\" + n] : []);
-    return names.length ? [`${names.join(\", \")} ${names.length > 1 ? \"are\" : \"is\"} stale: ${why_stale(this.steps[place - 1].code)}`] : [];
+    const stale = place ? [0, 1, 2, 3].filter((n) => this.targets[place][n]?.stale === place) : [];
+    if (!stale.length) return [];
+    const { code } = this.steps[place - 1];
+    const has_moved = stale.every((n) => this.has_moved(this.targets[place][n].key, place));
+    const why = has_moved ? `${code.split(\" \")[0]} moved ${stale.length > 1 ? \"their\" : \"its\"} block` : why_stale(code);
+    return [`${stale.map((n) => \"p\" + n).join(\", \")} ${stale.length > 1 ? \"are\" : \"is\"} stale: ${why}`];
+  }
+
+  // Whether a block moved in the step before a place.
+  has_moved(key, place) {
+    return this.moves(place).some((said) => said.startsWith(`${key} moved `));
   }
 
   // Whether an instruction moves chunks or unlocks a block in the step before a place.
