@@ -1,4 +1,4 @@
-// The laboratory: a text that is explained as one types, and a script that the machine runs.
+// The laboratory: a text or a source that is explained as one types, and a script that the machine runs.
 
 const given = JSON.parse($("given").textContent);
 // How many milliseconds after a key the text is explained.
@@ -50,15 +50,16 @@ function whole_page({ before, between, after }) {
 class Laboratory {
   constructor(library, page) {
     [this.library, this.page] = [library, whole_page(page)];
-    this.timer = 0;
+    [this.text, this.timer] = ["", 0];
   }
 
-  get text() {
-    return $("text").value;
+  get is_source() {
+    return $("language").value === "tkv";
   }
 
   choose(name) {
     const example = given.examples.find((one) => one.name === name);
+    $("language").value = name.endsWith(".tkv") ? "tkv" : "asm";
     $("text").value = example.text;
     $("script").value = example.script;
     this.explain();
@@ -92,8 +93,17 @@ class Laboratory {
     this.timer = setTimeout(() => this.explain(), REST);
   }
 
+  // What is said of what is written, and the line of its first fault, or 0. `text` is the assembly text that is explained and run: what is
+  // written, or what a source is compiled to.
+  judge() {
+    const written = $("text").value;
+    const fault = this.is_source ? this.library.explain_source(written) : { line: 0 };
+    this.text = this.is_source && fault.line === 0 ? this.library.compiled(written) : written;
+    return fault.line === 0 ? this.library.explain(this.text) : fault;
+  }
+
   explain() {
-    const { said, line } = this.library.explain(this.text);
+    const { said, line } = this.judge();
     const effects = line === 0 ? this.effects() : [];
     const is_text = /^\d+\t/m.test(said);
     this.is_accepted = line === 0;
@@ -234,6 +244,7 @@ async function begin() {
   $("example").append(...given.examples.map(({ name }) => node("option", {}, name)));
   $("example").addEventListener("change", () => laboratory.choose($("example").value));
   $("text").addEventListener("input", () => laboratory.explain_soon());
+  $("language").addEventListener("change", () => laboratory.explain());
   $("run").addEventListener("click", () => laboratory.run());
   $("step").addEventListener("click", () => laboratory.step());
   $("script").addEventListener("input", () => laboratory.close_steps());

@@ -53,9 +53,9 @@ class Library {
     return bits === 16 ? view.getUint16(Number(at), true) : bits === 32 ? view.getUint32(Number(at), true) : Number(view.getBigUint64(Number(at), true));
   }
 
-  // What a call of texts returns: its status, its bytes, and the numbers of 64 bits after them.
+  // What a call of texts or bytes returns: its status, its bytes, and the numbers of 64 bits after them.
   convert(name, text, more = 0) {
-    const given = utf8.bytes(text);
+    const given = typeof text === "string" ? utf8.bytes(text) : text;
     for (let room = 1 << 16; ; room *= 4) {
       const found = this.with_room([given.length, room, 8 * (1 + more)], (from, into, told) => {
         this.bytes(from, given.length).set(given);
@@ -78,6 +78,20 @@ class Library {
   // The image of a text, or null if there is none.
   assemble(text) {
     return this.convert("takhvoi_assemble", text).bytes;
+  }
+
+  // The first fault of a source of the structured language: its line, or 0 if there is none, and its sentence.
+  explain_source(source) {
+    const { status, numbers, bytes } = this.convert("takhvoi_explain_source", source, 2);
+    this.check(status);
+    return { said: utf8.text(bytes), line: numbers[1] };
+  }
+
+  // The listing of the image of a source without a fault.
+  compiled(source) {
+    const { status, bytes } = this.convert("takhvoi_compile", source);
+    this.check(status);
+    return utf8.text(this.convert("takhvoi_list", bytes).bytes);
   }
 }
 

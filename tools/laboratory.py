@@ -36,11 +36,11 @@ def script_of(text: Path) -> str:
         return script.read_text()
     if session.exists():
         return session.read_text().split("end\n", 1)[1]
-    return "call " + re.search(r"^routine (\w+) public", text.read_text(), re.M)[1] + "\n"
+    return "call " + re.search(r"^(?:routine|pub fn) (\w+)(?= public|\()", text.read_text(), re.M)[1] + "\n"
 
 
 def examples() -> list[dict[str, str]]:
-    texts = sorted((TOP / "examples").glob("*.asm"))
+    texts = sorted((TOP / "examples").glob("*.asm")) + sorted((TOP / "examples").glob("*.tkv"))
     return [{"name": text.name, "text": text.read_text(), "script": script_of(text)} for text in texts]
 
 

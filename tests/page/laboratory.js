@@ -107,15 +107,31 @@ function test_differences() {
   if (!document.getElementById("steps-part").hidden || steps_part(".play")) differs.push("old steps stay");
 }
 
+// A source with a fault is faulty at its line, and one without is accepted.
+async function test_sources() {
+  document.getElementById("language").value = "tkv";
+  for (const [source, verdict] of [["pub fn f() {\n    out(n)?;\n}\n", "faulty at line 2"], ["pub fn f() {\n    out(2)?;\n}\n", "accepted"]]) {
+    const next = next_page();
+    document.getElementById("text").value = source;
+    document.getElementById("language").dispatchEvent(new Event("change"));
+    const page = await next;
+    const said = document.getElementById("verdict").textContent;
+    if (said !== verdict) differs.push(`${source}: ${said}`);
+    const is_shown = page.body.textContent.includes(verdict === "accepted" ? "OUT" : "column 9");
+    if (!is_shown) differs.push(`${source}: the page does not show it`);
+  }
+}
+
 loaded().then(async (laboratory) => {
   const { texts, examples } = window.expected;
   for (const { name, text, explained } of texts) {
     document.getElementById("text").value = text;
-    const { said, line } = laboratory.library.explain(text);
+    const { said, line } = laboratory.judge();
     const effects = line === 0 ? laboratory.effects().map((one) => `; effects of ${one.routine}: ${one.said}\n`).join("") : "";
     if (said + effects !== explained) differs.push(name);
   }
   for (const example of examples) await look_at(example);
   test_differences();
+  await test_sources();
   window.tell(`${texts.length} texts, ${examples.length} examples, ${runs} runs, ${calls} calls, ${struck ? "stale pointers" : "no stale pointer"}, ${differs.slice(0, 3).join("; ") || "all agree"}`);
 }).catch((fault) => window.tell(`${fault}`));

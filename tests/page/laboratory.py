@@ -39,6 +39,16 @@ def mistakes() -> list[dict[str, str]]:
     return [{"name": name, "text": text, "explained": explained(text)} for name, text in texts if not text.startswith("# 1 ")]
 
 
+def as_assembly(path: str) -> str:
+    """The text whose lines the laboratory steps through: that of an example, or the listing of what it is compiled to."""
+    if not path.endswith(".tkv"):
+        return path
+    image, listing = (str(Path(Path(path).name).with_suffix(suffix)) for suffix in (".image", ".asm"))
+    geos("asm", path, image)
+    Path(listing).write_text(geos("list", image))
+    return listing
+
+
 def traced(path: str, script: str) -> list[dict] | None:
     """The steps of the first call of a script, which begins as `geos trace` does: with a new VM file and no memory block."""
     call = re.search(r"^[ \t]*call[ \t]+([^;=\n]*?)[ \t]*(?:->.*)?(?:=>.*)?(?:;.*)?$", script, re.M)
@@ -52,8 +62,8 @@ def traced(path: str, script: str) -> list[dict] | None:
 def examples() -> list[dict]:
     found = []
     for example in laboratory.examples():
-        said = explained(example["text"])
-        path = str(TOP / "examples" / example["name"])
+        path = as_assembly(str(TOP / "examples" / example["name"]))
+        said = explained(Path(path).read_text())
         is_accepted = verdict(said) == "accepted"
         printed = geos("call", path, given=example["script"]) if is_accepted else ""
         steps = traced(path, example["script"]) if is_accepted else None

@@ -7,4 +7,4 @@ python3 -B "$top/tests/page/laboratory.py" "$top" "$1" >page.json
 for width in 1200 360; do python3 -B "$top/tests/page/in_browser.py" laboratory page.html $width; done
 # The page loads nothing, and can be sent by mail.
 grep -cE '(src|href)="?https?:' page.html
-[ "$(wc -c <page.html)" -lt 500000 ] && echo small
+[ "$(wc -c <page.html)" -lt 600000 ] && echo small
