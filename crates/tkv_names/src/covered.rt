@@ -1,6 +1,6 @@
 //! The routines of a source that are covered.
 
-ghost use Rattle.std.specs.Prelude.{IfOk};
+ghost use Rattle.std.specs.Prelude.{◌≡◌, IfOk};
 ghost use Rattle.tkv_names.specs.Seen.{AreNamed, IfNamed};
 
 use crate::routine::means_named;
@@ -87,7 +87,8 @@ pub fn named_source(
     items: Vec<Item>,
     placed: Vec<Vec<Placed>>,
 ) -> Result<NamedSource, AllocError>
-    ensures { IfOk result (λ one. AreNamed one.text.items one.items.items one.placed.items one.named.items) }
+    ensures named { IfOk result (λ one. AreNamed one.text.items one.items.items one.placed.items one.named.items) }
+    ensures kept { IfOk result (λ one. (one.text.items ≡ text.items) × (one.items.items ≡ items.items) × (one.placed.items ≡ placed.items)) }
 {
     let named = named_routines(alloc, &text, &items, &placed)?;
     Ok(NamedSource {
