@@ -24,7 +24,7 @@ test "adds" {
     count(3) => 0, 1, 2;
     count(0) =>;
     add(0, 0) =>;
-    add(1, 1);
+    add(1, 1); uid(1, 9, 2);
 }
 test "a \"new\" file" {
     uid(1, 1, 2) => refused 1;
