@@ -153,10 +153,11 @@ pub(crate) fn character(text: &[u8], at: u32) -> Option<Written> {
     })
 }
 
-/// The quoted character here: also a backslash, which then is no escape.
+/// The quoted character here: also a backslash, which then is no escape, but not the quote, which requires one.
 fn quoted(text: &[u8], at: u32) -> Result<Token, Fault> {
     let start = plus(at, 1);
     if let Some(found) = character(text, start)
+        && letter(text, start) != b'\''
         && letter(text, found.end) == b'\''
     {
         return valued(at, plus(found.end, 1), Some(u16::from(found.value)));

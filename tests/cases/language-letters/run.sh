@@ -8,7 +8,7 @@ pub fn main() {
 }
 END
 "$1" call "$folder/letters.tkv" main
-for wrong in "'\q'" "'ab'" "'a" "1_x" "'\n"; do
+for wrong in "'\q'" "'ab'" "'a" "1_x" "'\n" "'''"; do
     printf 'pub fn main() {\n    out(%s)?;\n}\n' "$wrong" >"$folder/wrong.tkv"
     "$1" check "$folder/wrong.tkv" 2>&1
 done
