@@ -141,25 +141,55 @@ impl Parser {
 
     /// A field after its dot, or what comes before its index.
     fn field(&mut self) -> Next {
+        let around = match self.items.last() {
+            Some(item) if matches!(item.kind, ItemKind::Field) => self.items.len(),
+            _ => 0,
+        };
         self.advance();
-        let at = self.expect(Word::Named);
+        let item = Item {
+            c: around.min(NONE as usize) as u32,
+            ..Item::new(ItemKind::Field, self.expect(Word::Named))
+        };
         if self.takes(Word::Bracket) {
-            self.begin_part(Part::Index, ItemKind::Field, at, 1);
+            self.wait(Part::Index, Item { a: 1, ..item });
             return Next::Operand;
         }
-        self.put_plain(ItemKind::Field, at);
+        self.put(item);
         Next::Operator
     }
 
-    /// A `?`, which belongs to what precedes it.
+    /// A `?`, which belongs to what precedes it, and to the fields around that.
     fn question(&mut self) -> Next {
         let at = self.expect(Word::Asks);
         let item = self.retract(Why::NotRefusable);
         match item.kind {
-            ItemKind::Call | ItemKind::Field => self.put(Item { b: 1, ..item }),
+            ItemKind::Call => self.put(Item { b: 1, ..item }),
+            ItemKind::Field => {
+                self.ask_around(&item);
+                self.put(Item {
+                    b: item.b | 1,
+                    ..item
+                });
+            }
             _ => self.refuse(Why::NotRefusable, at),
         }
         Next::Operator
+    }
+
+    /// Says of the fields around one that `?` follows a field of them. What is around one that knows it knows it too.
+    fn ask_around(&mut self, item: &Item) {
+        let mut inner = *item;
+        for _ in 0..self.items.len() {
+            let around = inner.c as usize;
+            if around == 0 || inner.b & 2 != 0 {
+                break;
+            }
+            let Some(found) = self.items.get(around - 1).copied() else {
+                break;
+            };
+            self.amend(around - 1, 0, 2);
+            inner = found;
+        }
     }
 
     /// A bracket closes what began with its partner, if that is within this value.

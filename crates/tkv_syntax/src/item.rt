@@ -21,7 +21,8 @@ pub enum ItemKind {
     Right,
     /// A call with `a` arguments; `b` is 1 if `?` follows. `c` is the offset of the first argument if that is a name.
     Call,
-    /// A field of what is before, which may be another field, with an index if `a` is 1; `b` is 1 if `?` follows.
+    /// A field of what is before, with an index if `a` is 1; `b` is the sum of 1 if `?` follows, and 2 if `?` follows a field of this field.
+    /// `c` is 0, or the number of the item before it, from 1 on, that is the field whose field this is.
     Field,
     /// The name of the word that is to hold a new block's handle.
     Handle,

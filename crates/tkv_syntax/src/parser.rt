@@ -165,13 +165,17 @@ impl Parser {
 
     /// A construct begins, at whose end an item is added.
     pub(crate) fn begin_part(&mut self, part: Part, kind: ItemKind, at: u32, a: u32) {
-        let item = Item {
-            kind,
-            at,
-            a,
-            b: 0,
-            c: 0,
-        };
+        self.wait(
+            part,
+            Item {
+                a,
+                ..Item::new(kind, at)
+            },
+        );
+    }
+
+    /// A construct begins, at whose end the item is added.
+    pub(crate) fn wait(&mut self, part: Part, item: Item) {
         if self.pending.push(Pending { part, item }).is_err() {
             self.refuse(Why::Memory, self.token.at);
         }
