@@ -8,10 +8,11 @@ use geos_image::Instr;
 use geos_opcodes::Opcode;
 use tkv_syntax::Why;
 
-/// The most items of a placed routine, and the most blocks that are open at once.
+/// The most items of a placed routine.
 const MOST_PLACED: usize = 16_384;
 
-const MOST_OPEN: usize = 1_024;
+/// The most blocks that are open at once. The comparison of a routine's code goes through no more.
+const MOST_OPEN: usize = 256;
 
 impl Placer {
     fn place(&mut self, kind: PlacedKind, instr: Instr, to: u16, at: u32) {
