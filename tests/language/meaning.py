@@ -52,8 +52,21 @@ class Pointer:
 
 
 Scope = dict[str, Any]
-# The fields of a structure: the offset, the bytes of an element, and the fields of a structure in it.
-Fields = dict[str, tuple[int, int, Any]]
+# The fields of a structure: the offset, the bytes of an element, the fields of a structure in it, and how many elements an array has.
+Fields = dict[str, tuple[int, int, Any, int | None]]
+
+
+@dataclass
+class Place:
+    """What an access reaches: bytes at an offset of a pointer, and their fields. `past`: its last index is past its array."""
+
+    pointer: Pointer
+    at: int
+    width: int
+    fields: Fields
+    past: bool
+
+
 OPERATORS = {
     "+": lambda a, b: a + b,
     "-": lambda a, b: a - b,
@@ -96,10 +109,11 @@ class Program:
 
     def declare(self, item: Tree) -> None:
         at, fields = 0, {}
-        for name, kind, count in item.fields:
+        for name, kind, written in item.fields:
             width = self.sizes[kind] if kind in self.sizes else 2 if kind == "word" else 1
-            fields[name] = (at, width, self.fields.get(kind))
-            at += width * (1 if count is None else self.word(count, []))
+            count = None if written is None else self.word(written, [])
+            fields[name] = (at, width, self.fields.get(kind), count)
+            at += width * (1 if count is None else count)
         self.sizes[item.name], self.fields[item.name] = at, fields
 
     def call(self, name: str, words: list[int], handles: list[int]) -> list[str]:
@@ -197,12 +211,16 @@ class Program:
             (value,) = self.values(statement.value, scopes)
             self.scope_of(place.name, scopes)[place.name] = value
         else:
-            self.reach(place, scopes, self.word(statement.value, scopes))
+            reached = self.place(place, scopes, place.asks)
+            value = self.word(statement.value, scopes)
+            self.access(reached, place.asks, (value % 256**reached.width).to_bytes(reached.width, "little"))
 
     def end_write(self, statement: Tree, scopes: list[Scope]) -> None:
         """Writes a string: each byte is within what the pointer has, or none is written."""
-        pointer, at, width, _ = self.place(statement.place, scopes)
-        self.reached(statement.place, pointer, at, width * len(statement.text), statement.text)
+        asks = statement.place.asks
+        reached = self.place(statement.place, scopes, asks)
+        reached.width = len(statement.text)
+        self.access(reached, asks, statement.text)
 
     def end_do(self, statement: Tree, scopes: list[Scope]) -> None:
         self.values(statement.call, scopes)
@@ -329,9 +347,12 @@ class Program:
 
     def pointer(self, tree: Tree, scopes: list[Scope]) -> Pointer:
         found = self.fetched(tree, scopes) if tree.kind == "call" else self.named(tree, scopes)
-        if not isinstance(found, Pointer) or found.moves != found.block.moves or not found.block.locks:
+        if not isinstance(found, Pointer) or self.is_stale(found):
             raise Wrong("a stale pointer")
         return found
+
+    def is_stale(self, pointer: Pointer) -> bool:
+        return pointer.moves != pointer.block.moves or not pointer.block.locks
 
     def fetched(self, call: Tree, scopes: list[Scope]) -> Pointer:
         """The pointer of `deref` or `caelt`."""
@@ -349,31 +370,56 @@ class Program:
             self.refuse(refused, call.asks)
         return Pointer(block, words[0], start, size, fields, block.moves)
 
-    def place(self, tree: Tree, scopes: list[Scope]) -> tuple[Pointer, int, int, Fields]:
-        """The pointer of an access, the offset and the bytes of what it reaches, and the fields of that."""
+    def place(self, tree: Tree, scopes: list[Scope], asks: bool) -> Place:
+        """What an access reaches. The indexes before its last one are within their arrays, or it is refused."""
         if tree.base.kind == "field":
-            pointer, start, _, fields = self.place(tree.base, scopes)
+            around = self.place(tree.base, scopes, asks)
+            self.refuse_past(around.past, asks)
+            pointer, start, fields = around.pointer, around.at, around.fields
         else:
             pointer = self.pointer(tree.base, scopes)
             start, fields = 0, pointer.fields
         index = 0 if tree.index is None else self.word(tree.index, scopes)
-        at, width, inner = fields[tree.name] if tree.name in fields else (0, 2 if tree.name == "w" else 1, None)
-        counted = index * (width if tree.name in fields else 1)
-        return pointer, (start + at + counted) % 65_536, width, inner or {}
+        if tree.name in fields:
+            at, width, inner, count = fields[tree.name]
+            counted = index * width
+        else:
+            at, width, inner, count = 0, 2 if tree.name == "w" else 1, None, None
+            counted = index
+        past = count is not None and index >= count
+        if past and self.is_constant(tree.index, scopes):
+            raise Wrong("a constant index past its array")
+        return Place(pointer, (start + at + counted) % 65_536, width, inner or {}, past)
 
-    def reach(self, tree: Tree, scopes: list[Scope], value: int | None) -> int:
-        """Reads an access, or writes a value into it."""
-        pointer, at, width, _ = self.place(tree, scopes)
-        spelled = None if value is None else (value % 256**width).to_bytes(width, "little")
-        return int.from_bytes(self.reached(tree, pointer, at, width, spelled), "little")
+    def is_constant(self, tree: Tree, scopes: list[Scope]) -> bool:
+        """Whether a value is made of numbers, constants and structures."""
+        if tree.kind == "operation":
+            return self.is_constant(tree.left, scopes) and self.is_constant(tree.right, scopes)
+        if tree.kind == "field":
+            return self.is_constant(tree.base, scopes)
+        if tree.kind == "name":
+            return tree.name in self.constants | self.sizes and not any(tree.name in scope for scope in scopes)
+        return tree.kind == "number"
 
-    def reached(self, tree: Tree, pointer: Pointer, at: int, width: int, written: bytes | None) -> bytes:
-        """The bytes at an offset, which are then the ones that are written."""
-        if at + width > pointer.size:
-            if not (tree.asks or self.tests):
-                raise Wrong("an access past the bytes of its pointer")
-            self.refuse(Refused(14), tree.asks)
-        data, at = pointer.block.chunks[pointer.chunk], pointer.start + at
+    def reach(self, tree: Tree, scopes: list[Scope]) -> int:
+        """Reads an access."""
+        return int.from_bytes(self.access(self.place(tree, scopes, tree.asks), tree.asks, None), "little")
+
+    def refuse_past(self, past: bool, asks: bool) -> None:
+        """Refuses an access that is past its array or its pointer's bytes."""
+        if not past:
+            return
+        if not (asks or self.tests):
+            raise Wrong("an access past its array, or past the bytes of its pointer")
+        self.refuse(Refused(14), asks)
+
+    def access(self, place: Place, asks: bool, written: bytes | None) -> bytes:
+        """The bytes of an access, which are then the ones that are written."""
+        pointer, width = place.pointer, place.width
+        if self.is_stale(pointer):
+            raise Wrong("a pointer that is stale after the value")
+        self.refuse_past(place.past or place.at + width > pointer.size, asks)
+        data, at = pointer.block.chunks[pointer.chunk], pointer.start + place.at
         if written is not None:
             pointer.block.chunks[pointer.chunk] = data[:at] + written + data[at + width :]
         return data[at : at + width]
@@ -449,7 +495,7 @@ class Program:
             base = tree.base
             if base.kind == "name" and base.name in self.sizes and not any(base.name in s for s in scopes):
                 return self.sizes[base.name] if tree.name == "size" else self.fields[base.name][tree.name][0]
-            return self.reach(tree, scopes, None)
+            return self.reach(tree, scopes)
         if tree.kind == "operation":
             return OPERATORS[tree.sign](self.word(tree.left, scopes), self.word(tree.right, scopes)) % 65_536
         found = [self.named(tree, scopes)] if tree.kind == "name" else self.values(tree, scopes)

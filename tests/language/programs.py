@@ -157,6 +157,20 @@ class Writer:
     def index(self, known: Known) -> str:
         return self.pick(["0", "1", "2", "16", self.word(known)])
 
+    def element(self, known: Known, count: int) -> str:
+        """An index of an array that is tested: rarely one that the compiler refuses."""
+        if self.chance(0.03):
+            return self.pick(["16", str(count), *known.below])
+        words = [word for word in known.words if known.below.get(word, 65_536) in (65_536, *range(count + 1))]
+        return self.pick([*map(str, range(count)), *words, *words, f"({self.word(known)} & {self.pick([1, 3])})"])
+
+    def within(self, known: Known, count: int) -> str:
+        """An index of an array that has a bound within it."""
+        counted = [word for word in known.words if known.below.get(word, 65_536) <= count]
+        bounded = [f"({self.word(known)} {self.pick(['& 1', '% 2', '>> 15'])})"]
+        bounded += [f"({word} + 1)" for word in counted if known.below[word] < count]
+        return self.pick([*map(str, range(count)), *bounded, *counted, *counted, *counted])
+
     def value(self, known: Known, depth: int) -> str:
         forms = ["number", "word", "word", "word"]
         if depth:
@@ -196,7 +210,7 @@ class Writer:
         if counted and self.chance(0.7):
             return f"{name}.{self.pick('wb')}[{self.pick(counted)}]"
         if led == "Pair" and self.chance(0.7):
-            return name + self.pick([".left", ".right", ".tag", ".more[1]", f".more[{self.index(known)}]?"])
+            return name + self.pick([".left", ".right", ".tag", f".more[{self.within(known, 3)}]", f".more[{self.element(known, 3)}]?"])
         letter = self.pick("wb")
         if least >= 2 and self.chance(0.4):
             return f"{name}.{letter}[{self.number(0, least - 2)}]"
@@ -204,16 +218,13 @@ class Writer:
 
     def nested(self, name: str, known: Known) -> str:
         """An access through a pointer to a structure that has structures in it."""
-        counted = [i for i in known.below if i in known.words and known.below[i] <= 2]
-        within = [".left", ".right", ".tag", ".more[1]", ".w[2]"]
-        if counted and self.chance(0.5):
-            return f"{name}.pairs[{self.pick(counted)}]{self.pick([*within, f'.more[{self.pick(counted)}]'])}"
+        parts = [".left", ".right", ".tag", ".w[2]", f".more[{self.within(known, 3)}]"]
         if self.chance(0.3):
-            return name + self.pick([".head", ".name[2]", f".name[{self.index(known)}]?"])
+            return name + self.pick([".head", f".name[{self.within(known, 3)}]", f".name[{self.element(known, 3)}]?"])
         if self.chance(0.5):
-            return f"{name}.pairs[{self.number(0, 1)}]{self.pick([*within, f'.more[{self.index(known)}]?'])}"
-        index = self.pick([self.index(known), f"({self.word(known)} & 1)", self.word(known)])
-        return f"{name}.pairs[{index}]{self.pick([*within, f'.more[{self.index(known)}]', f'.b[{self.word(known)}]'])}?"
+            return f"{name}.pairs[{self.within(known, 2)}]{self.pick([*parts, f'.more[{self.element(known, 3)}]?'])}"
+        tested = [f".more[{self.element(known, 3)}]", f".b[{self.word(known)}]"]
+        return f"{name}.pairs[{self.element(known, 2)}]{self.pick([*parts, *tested])}?"
 
     def call(self, known: Known, results: int) -> str | None:
         fitting = [r for r in self.routines if r.results == results]
@@ -302,11 +313,16 @@ class Writer:
         return (f"{self.pick(able)} = {self.value(known, 2)};" if able else "out(7)?;"), known
 
     def branch(self, known: Known, depth: int) -> tuple[str, Known]:
-        body = self.statements(known, self.number(1, 2), depth + 1)[0]
+        condition, inner = self.condition(known), known
+        if known.words and self.chance(0.4):
+            word, below = self.word(known), self.number(1, 3)
+            condition = self.pick([f"{word} < {below}", f"{word} <= {below - 1}", f"!({below} <= {word})"])
+            inner = replace(known, fixed=(*known.fixed, word), below=known.below | {word: min(below, known.below.get(word, below))})
+        body = self.statements(inner, self.number(1, 2), depth + 1)[0]
         if self.chance(0.4):
             body += "\n" + self.leave(known)
         other = f" else {{\n{self.statements(known, 1, depth + 1)[0]}\n}}" if self.chance(0.4) else ""
-        return f"if {self.condition(known)} {{\n{body}\n}}{other}", self.after(known)
+        return f"if {condition} {{\n{body}\n}}{other}", self.after(known)
 
     def assertion(self, known: Known, depth: int) -> tuple[str, Known]:
         return f"assert {self.condition(known)};", known
@@ -442,9 +458,9 @@ class Writer:
 
     def written(self, name: str, known: Known) -> str:
         """A string that is written."""
-        field, counted = ".more", [i for i in known.below if i in known.words and known.below[i] <= 2]
+        field = ".more"
         if known.pointers[name][2] == "Both":
-            field = self.pick([".name", ".pairs[1].more", f".pairs[{self.pick(counted or '01')}].more"])
+            field = self.pick([".name", ".pairs[1].more", f".pairs[{self.within(known, 2)}].more", f".pairs[{self.word(known)}].more?"])
         return name + field + " = " + self.pick(['"a"', '"no"', '"yes"', r'"\"\n"', r'"\\it"', '"\'//"']) + ";"
 
     def copy(self, known: Known, depth: int) -> tuple[str, Known]:

@@ -9,7 +9,7 @@ use tkv_syntax::{Fault, LIBRARY, Name, Why, Word, name_at, place_of};
 /// The sentence of each fault, in the order of `Why`. `@` stands for the name at the fault's offset, `~` for the name at its other offset,
 /// `^` for the line of that, `#` for the number, `$` for the word, and `%` for what a call may have meant, or how it is written, or for the names
 /// that hold words.
-static SENTENCES: [(Why, &str); 77] = [
+static SENTENCES: [(Why, &str); 79] = [
     (Why::Memory, "memory is refused"),
     (Why::TooLong, "a source has at most 1,048,576 bytes"),
     (
@@ -218,6 +218,14 @@ static SENTENCES: [(Why, &str); 77] = [
     (
         Why::PastEnd,
         "this is past the # bytes that the pointer is known to have: fetch it with a greater size",
+    ),
+    (
+        Why::PastArray,
+        "the index is not below #, the number of elements of @: write a lower one, or declare @ with more elements",
+    ),
+    (
+        Why::PastPerhaps,
+        "the index may not be below #, the number of elements of @: test it before, as in if i < # { .. }, or write ? at the end, as in p.list[i]?",
     ),
     (
         Why::Dropped,

@@ -4,11 +4,11 @@ use crate::names::value;
 use crate::placed::{NOWHERE, with_number, with_registers};
 use crate::placer::{Operand, Placer, Sort};
 use geos_opcodes::Opcode;
-use tkv_syntax::{Item, ItemKind, NUMBERS, Why};
+use tkv_syntax::{Item, ItemKind, Why};
 
 /// What is read or written through a pointer: at first all that this leads to, or a structure within.
 #[derive(Clone, Copy)]
-struct Target {
+pub(crate) struct Target {
     pointer: Operand,
     /// The word of the indexes before, or 0.
     before: Operand,
@@ -19,19 +19,13 @@ struct Target {
     structure: u16,
     /// By how many bytes an index counts.
     scale: u16,
+    /// Whether an index counts elements of a field, and how many there are.
+    many: bool,
+    pub count: u16,
+    /// Whether the index is tested, so that the verifier knows its bound.
+    pub tested: bool,
     /// How many values the pointer or the structure is.
     values: usize,
-}
-
-/// The greatest number that an operand can be, or 65,536 if that is not known.
-fn most(operand: &Operand) -> u32 {
-    let bounded = operand.is_constant() || operand.value > 0;
-    let number = if operand.is_constant() {
-        operand.value
-    } else {
-        operand.value.saturating_sub(1)
-    };
-    if bounded { u32::from(number) } else { NUMBERS }
 }
 
 impl Target {
@@ -48,20 +42,13 @@ impl Target {
         end <= u32::from(self.pointer.value)
     }
 
-    /// The greatest sum of the index and of those before, in bytes; 65,536 or more if none is known.
-    fn most_counted(&self, index: &Operand) -> u32 {
-        most(index)
-            .saturating_mul(u32::from(self.scale))
-            .saturating_add(most(&self.before))
-    }
-
-    /// Whether it is within the bytes of its pointer for each number that the index can be.
-    fn is_always_within(&self, index: &Operand) -> bool {
-        let end = self
-            .most_counted(index)
-            .saturating_add(u32::from(self.offset))
-            .saturating_add(u32::from(self.bytes));
-        end <= u32::from(self.pointer.value)
+    /// The last index of the array, if an index up to this number may be past that.
+    pub(crate) fn last_index(&self, most: u16) -> Option<u16> {
+        if self.many && most >= self.count {
+            Some(self.count.saturating_sub(1))
+        } else {
+            None
+        }
     }
 
     /// A constant index becomes a part of the offset. Returns the index that is left.
@@ -108,6 +95,9 @@ impl Placer {
             bytes: 2,
             structure: last.structure,
             scale: 1,
+            many: false,
+            count: 0,
+            tested: false,
             values: if part { 3 } else { 1 },
         }
     }
@@ -122,6 +112,8 @@ impl Placer {
                 target.bytes = field.bytes;
                 target.scale = field.bytes;
                 target.structure = field.structure;
+                target.many = field.many;
+                target.count = field.count;
                 many = field.many;
             }
             None => {
@@ -180,10 +172,9 @@ impl Placer {
     /// A structure within what a pointer leads to: the pointer stays, with the sum of the indexes.
     fn part(&mut self, item: &Item, target: &Target, index: Operand, count: usize) {
         let at = item.at;
-        if item.b != 0 {
+        if item.b % 2 != 0 {
             self.refuse(Why::NotRefusable, at);
         }
-        let most = target.most_counted(&index).saturating_add(1);
         let left = self.operands.len().saturating_sub(count);
         self.operands.truncate(left.saturating_add(1));
         let sums = !target.before.is_constant();
@@ -200,11 +191,6 @@ impl Placer {
         if sums {
             operation.kind = ItemKind::Add;
             self.operation(&operation);
-        }
-        if let Some(last) = self.operands.last_mut()
-            && last.is_temporary()
-        {
-            last.value = if most > 65_535 { 0 } else { most as u16 };
         }
         self.push(Operand {
             structure: target.structure,
@@ -235,6 +221,7 @@ impl Placer {
             self.operand(usize::from(store), at)
         };
         let nested = target.structure != NOWHERE;
+        self.test_index(item, &mut target, &index);
         if index.is_constant() && (nested || target.values > 1) {
             if !target.is_within(index.value) {
                 return self.refuse_for(Why::PastEnd, at, at, pointer.value);
@@ -247,17 +234,29 @@ impl Placer {
             }
             return self.part(item, &target, index, count);
         }
+        self.read_or_write(item, &target, index, store, count);
+    }
+
+    /// Reads or writes a word or byte. The access takes so many values.
+    fn read_or_write(
+        &mut self,
+        item: &Item,
+        target: &Target,
+        index: Operand,
+        store: bool,
+        count: usize,
+    ) {
+        let at = item.at;
         let words = self.words;
         let register = if store {
-            let slot = self.leads[usize::from(self.pointer_of(pointer))];
+            let slot = self.leads[usize::from(self.pointer_of(target.pointer))];
             self.mark(slot, at);
             let stored = self.operand(0, at);
             self.stored_word(stored, &index, at)
         } else {
             self.lowest(count, at)
         };
-        let opcodes = opcodes(store, target.bytes);
-        self.accessed(item, &target, index, opcodes, register);
+        self.accessed(item, target, index, store, register);
         self.words = words;
         self.take_values(count);
         if !store {
@@ -281,10 +280,10 @@ impl Placer {
             }
             None => self.refuse(Why::NoField, at),
         }
-        if item.b != 0 {
+        let index = target.before;
+        if item.b != 0 && index.is_constant() {
             self.refuse(Why::NotRefusable, at);
         }
-        let index = target.before;
         target.before = value(Sort::Constant, at, 0, 0);
         index
     }
@@ -297,9 +296,10 @@ impl Placer {
         let slot = self.leads[usize::from(self.pointer_of(target.pointer))];
         let index = self.reach_string(item, &mut target);
         self.mark(slot, at);
-        // An index is to have a bound, so that all bytes are written.
+        // Each index before it is within its array, so that all bytes are written.
         let handler = self.handler;
         self.handler = NOWHERE;
+        let within = Item { b: 0, ..*item };
         for k in 0..pairs {
             let words = self.words;
             if k + 1 == pairs && item.c % 2 == 1 {
@@ -307,7 +307,7 @@ impl Placer {
             }
             let stored = self.operand(pairs - 1 - k, at);
             let register = self.stored_word(stored, &index, at);
-            self.accessed(item, &target, index, opcodes(true, target.bytes), register);
+            self.accessed(&within, &target, index, true, register);
             self.words = words;
             target.offset = target.offset.saturating_add(2);
         }
@@ -321,11 +321,11 @@ impl Placer {
         item: &Item,
         target: &Target,
         index: Operand,
-        opcodes: (Opcode, Opcode, Opcode),
+        store: bool,
         register: u8,
     ) {
         let at = item.at;
-        let (fixed, bounded, tested) = opcodes;
+        let (fixed, bounded, tested) = opcodes(store, target.bytes);
         let from = self.pointer_of(target.pointer);
         let may_be_refused = item.b != 0 || self.handler != NOWHERE;
         if index.is_constant() {
@@ -337,16 +337,29 @@ impl Placer {
                 return self.refuse_for(Why::PastEnd, at, at, target.pointer.value);
             }
         }
+        let within = self.is_always_within(target, &index);
         let word = self.offset_word(target, index, at);
-        if may_be_refused {
-            let way = self.refusal_way(item.b != 0, at);
-            self.act_to(with_registers(tested, register, from, word), way, at);
-        } else if target.is_always_within(&index) {
+        let (opcode, way) = if target.tested && target.before.is_constant() {
+            (bounded, NOWHERE)
+        } else if may_be_refused {
+            (tested, self.refusal_way(item.b != 0, at))
+        } else if within {
             // The test costs no step and never fails.
-            self.act_to(with_registers(tested, register, from, word), OUTERMOST, at);
+            (tested, OUTERMOST)
         } else {
-            self.act(with_registers(bounded, register, from, word), at);
-        }
+            (bounded, NOWHERE)
+        };
+        self.act_to(with_registers(opcode, register, from, word), way, at);
+    }
+
+    /// Whether a target is within the bytes of its pointer for each number that the index can be.
+    fn is_always_within(&self, target: &Target, index: &Operand) -> bool {
+        let end = u32::from(self.most_of(index))
+            .saturating_mul(u32::from(target.scale))
+            .saturating_add(u32::from(self.most_of(&target.before)))
+            .saturating_add(u32::from(target.offset))
+            .saturating_add(u32::from(target.bytes));
+        end <= u32::from(target.pointer.value)
     }
 
     /// `STRUCTURE.size`, or where a field begins.

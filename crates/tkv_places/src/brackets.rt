@@ -123,15 +123,17 @@ impl Placer {
         if level != NOWHERE {
             self.join(level);
         }
+        self.state.bound_results(&instr);
         self.place(PlacedKind::Do, instr, level, at);
     }
 
     /// An instruction that may be refused, and leaves to the end of a block then.
     pub(crate) fn act_to(&mut self, instr: Instr, level: u16, at: u32) {
-        let state = self.state;
+        let facts = self.state.facts;
         self.state.facts |= bit(WHY);
+        self.state.bound(WHY, u16::MAX);
         self.test_to(instr, level, at);
-        self.state = state;
+        self.state.facts = facts;
     }
 
     /// The opcode of the last placed item, if that is an instruction; otherwise of one that leaves no result.
@@ -159,6 +161,12 @@ impl Placer {
     /// The last placed item has its result in another word, if it is an instruction with its result in this one.
     pub(crate) fn retarget(&mut self, from: u8, to: u8) -> bool {
         let opcode = self.last_opcode();
-        !matches!(opcode, Opcode::Chk) && self.redirect(result_fields(opcode), from, to)
+        let leaves = !matches!(opcode, Opcode::Chk);
+        if !leaves || !self.redirect(result_fields(opcode), from, to) {
+            return false;
+        }
+        self.state.bound(to, self.state.most_of(from));
+        self.state.bound(from, u16::MAX);
+        true
     }
 }

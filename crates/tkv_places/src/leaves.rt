@@ -92,13 +92,15 @@ impl Placer {
         self.leave(running.level, at);
     }
 
-    /// What takes refusals begins: a block around all, and one around what may be refused. The number of the first.
+    /// What takes refusals begins: a block around all, one around what may be refused, and one around that, to whose end tests of indexes leave.
+    /// The number of the first.
     pub(crate) fn attempt(&mut self, construct: Construct, at: u32) -> u16 {
         if !self.state.alive {
             self.refuse(Why::Unreached, at);
         }
         let mut frame = self.frame(construct, at);
         frame.level = self.block(at);
+        self.block(at);
         self.block(at);
         self.begin(frame);
         frame.level
@@ -107,7 +109,9 @@ impl Placer {
     /// What may be refused is over, and what takes refusals follows.
     pub(crate) fn attempted(&mut self, at: u32) {
         let frame = self.innermost(at);
-        self.leave_and_end(frame.level, at);
+        self.leave_if_alive(frame.level, at);
+        self.indexes_end(at);
+        self.end(at);
         if matches!(frame.construct, Construct::Try) {
             self.restore(&frame);
         }

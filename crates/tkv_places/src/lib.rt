@@ -4,6 +4,7 @@
 #![tactic(auto)]
 
 mod access;
+mod arrays;
 mod brackets;
 mod calls;
 mod declarations;

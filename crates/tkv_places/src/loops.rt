@@ -34,14 +34,13 @@ impl Counting {
         Some((span - 1) / self.step)
     }
 
-    /// The number that the word is always below: the one after the last one that is counted; 0 if it is not known.
-    fn limit(&self) -> u16 {
+    /// The last number that is counted; 0 if it is not known.
+    fn last(&self) -> u16 {
         match self.more() {
             Some(more) => self
                 .low
                 .value
-                .saturating_add(more.saturating_mul(self.step))
-                .saturating_add(1),
+                .saturating_add(more.saturating_mul(self.step)),
             None => 0,
         }
     }
@@ -53,6 +52,7 @@ impl Placer {
         let at = frame.at;
         let words = (self.needed_words() | below(self.callers)) & !bit(WHY);
         self.state.facts &= words | (below(self.named_pointers) << 8) | BLOCKS;
+        self.state.bound_only(words);
         let kind = if counts_first {
             PlacedKind::Count
         } else {
@@ -179,11 +179,18 @@ impl Placer {
         };
         let speaks = self.foresee(at);
         let none = frame.level.saturating_add(1);
+        // With a step the end is a constant.
+        let most = if counting.is_known() {
+            counting.last()
+        } else {
+            self.most_of(&high).saturating_sub(1)
+        };
         let counted = self.count_from(&counting, none, speaks, at);
         self.clear();
         if counted != UNCOUNTED {
-            self.declare(Meaning::Fixed, at, counted, counting.limit(), NOWHERE);
+            self.declare(Meaning::Fixed, at, counted, counting.last(), NOWHERE);
             self.keep_word(counted);
+            self.state.bound(counted, most);
         }
         self.begin_turns(frame, counted, step, !counting.is_known());
     }

@@ -59,7 +59,16 @@ impl Placer {
         }
     }
 
-    /// Goes over the turns of a loop, whose items follow: pointers are stale that they make stale. Whether they speak of the name.
+    /// Nothing is known of how great the word of a name is, which a loop's body sets.
+    fn lose_bound(&mut self, at: u32) {
+        let symbol = self.symbol(&self.declared.name(at));
+        if matches!(symbol.meaning, Meaning::Word) {
+            self.state.bound(symbol.register, u16::MAX);
+        }
+    }
+
+    /// Goes over the turns of a loop, whose items follow: pointers are stale that they make stale, and words have no bounds that they set. Whether
+    /// they speak of the name.
     pub(crate) fn foresee(&mut self, name_place: u32) -> bool {
         let name = self.declared.name(name_place);
         let mut depth: u32 = 1;
@@ -73,6 +82,7 @@ impl Placer {
                 ItemKind::TurnEnd => depth = depth.saturating_sub(1),
                 ItemKind::Named => speaks = speaks || self.declared.name(item.at) == name,
                 ItemKind::Call => self.lose_by_call(&item),
+                ItemKind::Assign | ItemKind::Handle => self.lose_bound(item.at),
                 _ => {}
             }
             if depth == 0 {

@@ -57,7 +57,7 @@ pub(crate) struct Symbol {
     pub meaning: Meaning,
     /// The word, slot or pointer.
     pub register: u8,
-    /// The constant, how many bytes a pointer has at least, or the number that a word is always below; 0 if none is known.
+    /// The constant, how many bytes a pointer has at least, or the last number that a word between constants counts; 0 if none is known.
     pub value: u16,
     /// The structure of a pointer's bytes, or `NOWHERE`.
     pub structure: u16,
@@ -262,6 +262,7 @@ impl Placer {
             state: State {
                 alive: true,
                 facts: 0,
+                most: [u16::MAX; 8],
             },
             next: 0,
             here: 0,

@@ -51,7 +51,9 @@ impl Placer {
             ItemKind::WordParam => {
                 let register = self.own_word(item.at);
                 if item.b != NONE {
-                    entry.bounds[usize::from(register)] = self.constant(item.b);
+                    let most = self.constant(item.b);
+                    entry.bounds[usize::from(register)] = most;
+                    self.state.bound(register, most);
                 }
             }
             ItemKind::BlockParam if item.a == 1 => {

@@ -1,4 +1,7 @@
-//! What is known of the registers at a place: a set of facts as bits.
+//! What is known of the registers at a place: a set of facts as bits, and bounds of words.
+
+use geos_image::Instr;
+use geos_opcodes::{Opcode, Yields};
 
 /// What is known where control comes to a place, if it does.
 #[derive(Clone, Copy)]
@@ -8,12 +11,15 @@ pub(crate) struct State {
     /// The facts that hold: `bit(w)` if the word is set, `fetched(p)` if the pointer is not stale, `marked(s)` if the block of the slot is
     /// marked, and `pair(s, t)` if two slots hold different blocks.
     pub facts: u32,
+    /// The greatest number that each word may be.
+    pub most: [u16; 8],
 }
 
 /// Control does not come there.
 pub(crate) const DEAD: State = State {
     alive: false,
     facts: 0,
+    most: [u16::MAX; 8],
 };
 
 /// The register for the number of a refusal, and for constants.
@@ -71,9 +77,66 @@ impl State {
         if !other.alive {
             return self;
         }
-        State {
-            alive: true,
-            facts: self.facts & other.facts,
+        let mut met = self;
+        met.facts &= other.facts;
+        for word in 0..8 {
+            met.most[word] = met.most[word].max(other.most[word]);
+        }
+        met
+    }
+
+    /// The greatest number that a word may be.
+    pub(crate) fn most_of(&self, word: u8) -> u16 {
+        if word < 8 {
+            self.most[usize::from(word)]
+        } else {
+            u16::MAX
+        }
+    }
+
+    /// A word is at most a number.
+    pub(crate) fn bound(&mut self, word: u8, most: u16) {
+        if word < 8 {
+            self.most[usize::from(word)] = most;
+        }
+    }
+
+    /// Nothing is known of words that are not in a set.
+    pub(crate) fn bound_only(&mut self, words: u32) {
+        for word in 0..8 {
+            if words & bit(word) == 0 {
+                self.bound(word, u16::MAX);
+            }
+        }
+    }
+
+    /// The bound of what an instruction computes, as the verifier has it.
+    fn computed(&self, instr: &Instr) -> u16 {
+        let one = self.most_of(instr.b);
+        match instr.opcode {
+            Opcode::Ldi => instr.imm,
+            Opcode::Mov => one,
+            Opcode::Add => one.saturating_add(self.most_of(instr.c)),
+            Opcode::And => one.min(instr.imm),
+            Opcode::Shr => if instr.imm < 16 { one >> instr.imm } else { 0 },
+            Opcode::Muli => one.saturating_mul(instr.imm),
+            Opcode::Chk => self.most_of(instr.a).min(instr.imm),
+            _ => u16::MAX,
+        }
+    }
+
+    /// Bounds the words that an instruction sets, if control continues after it.
+    pub(crate) fn bound_results(&mut self, instr: &Instr) {
+        match instr.opcode.facts().yields {
+            Yields::Nothing => {}
+            Yields::Computed => self.bound(instr.a, self.computed(instr)),
+            Yields::ByteInA => self.bound(instr.a, 255),
+            Yields::WordInA => self.bound(instr.a, u16::MAX),
+            Yields::WordInB => self.bound(instr.b, u16::MAX),
+            Yields::WordInAAndB => {
+                self.bound(instr.a, u16::MAX);
+                self.bound(instr.b, u16::MAX);
+            }
         }
     }
 

@@ -126,6 +126,10 @@ pub enum Why {
     Commits,
     /// The pointer has too few bytes; `number` is how many it is known to have.
     PastEnd,
+    /// The index is past the array that the field is; `number` is how many elements this has.
+    PastArray,
+    /// The index may be past the array, and nothing says what happens then; `number` is how many elements this has.
+    PastPerhaps,
     /// A value is dropped.
     Dropped,
     /// The value gives a different number of words; `number` is how many.
