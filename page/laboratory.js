@@ -128,8 +128,7 @@ class Laboratory {
   }
 
   // What `work` returns of a new kernel with the image of the text.
-  with_kernel(work) {
-    const kernel = new ProvedKernel(this.library);
+  with_kernel(work, kernel = new ProvedKernel(this.library)) {
     try {
       return work(kernel, kernel.load(this.library.assemble(this.text)));
     } finally {
@@ -153,24 +152,19 @@ class Laboratory {
     return found;
   }
 
-  // Runs the script. Returns its commands and what each printed, or nothing if a line is bad.
+  // Runs the script. Returns its commands and the slots that routines borrow, or nothing if a line is bad.
   run() {
     this.clear();
     if (!this.is_accepted) return null;
     try {
       const commands = read_script($("script").value);
       const borrows = this.borrows();
-      const proved = this.with_kernel((kernel, image) => {
+      this.with_kernel((kernel, image) => {
         const run = new ScriptRun(kernel, image, borrows);
-        const all = commands.map((command) => {
-          const printed = run.printed(command);
-          show_command(command, printed);
-          return { printed, steps: run.steps };
-        });
+        for (const command of commands) show_command(command, run.printed(command));
         show_blocks(kernel);
-        return all;
       });
-      return { commands, borrows, proved };
+      return { commands, borrows };
     } catch (fault) {
       $("output").append(node("li", { class: "fault" }, fault.message));
       return null;
@@ -184,16 +178,19 @@ class Laboratory {
     if (!calls.length) return;
     const lines = $("script").value.split("\n");
     $("call").replaceChildren(...calls.map((n) => node("option", { value: n }, `${script.commands[n].line}: ${lines[script.commands[n].line - 1].split(";")[0].trim()}`)));
-    const program = program_of_text(this.text);
-    $("call").onchange = () => this.show_steps(program, script, +$("call").value);
+    $("call").onchange = () => this.show_steps(script, +$("call").value);
     $("steps-part").hidden = false;
-    this.show_steps(program, script, calls[0]);
+    this.show_steps(script, calls[0]);
     $("steps").querySelector(".slider")?.focus();
   }
 
-  show_steps(program, script, number) {
+  show_steps(script, number) {
     this.mark(null);
-    $("steps").replaceChildren(play_of_script(program, script, number, (line) => this.mark(line)).panel);
+    const [program, lines] = [program_of_text(this.text), this.library.lines(this.text)];
+    const noted = this.with_kernel((kernel, image) => noted_call(kernel, image, script, number), new NotingKernel(this.library));
+    const name = script.commands[number].call.name;
+    this.play = noted && new ProvedPlay(program, new ProvedSteps(program, lines, noted), name, (line) => this.mark(line));
+    $("steps").replaceChildren(this.play?.panel ?? node("p", { class: "quiet" }, "A block can't be lent, so the routine does not begin."));
   }
 }
 

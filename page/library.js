@@ -8,6 +8,12 @@ const WRITE = 1;
 const MOST_WORDS = 1024;
 const MOST_LISTED = 4096;
 const SLOTS = [0, 1, 2, 3];
+// How many bytes a state and the place of a block have in takhvoi.h, and how many blocks can be in memory.
+const STATE_SIZE = 80;
+const PLACE_SIZE = 16;
+const MOST_PLACES = 2048;
+// How many instructions an image has at most.
+const MOST_INSTRUCTIONS = 65536;
 // Effects as geos names them, with their bits in takhvoi.h, in the order in which geos prints them.
 const EFFECTS = [["output", 1], ...SLOTS.map((slot) => [`reads s${slot}`, 1 << (8 + slot)]), ...SLOTS.map((slot) => [`changes s${slot}`, 1 << (12 + slot)]),
   ["memory", 2], ["locks by handle", 4], ["reads file", 8], ["changes file", 16], ["map", 32], ["commits", 64]];
@@ -46,6 +52,31 @@ class Library {
     } finally {
       for (const place of places) this.exports.page_free(place);
     }
+  }
+
+  // A copy of the module's memory, which has all that the library knows.
+  get memory() {
+    return new Uint8Array(this.exports.memory.buffer).slice();
+  }
+
+  put_memory(bytes) {
+    new Uint8Array(this.exports.memory.buffer).set(bytes);
+  }
+
+  // What `work` returns if the module has another memory. Afterwards it has the one that it has now.
+  with_memory(bytes, work) {
+    const now = this.memory;
+    this.put_memory(bytes);
+    try {
+      return work();
+    } finally {
+      this.put_memory(now);
+    }
+  }
+
+  // So many numbers of 16 or 32 bits from a place on.
+  numbers(at, bits, count) {
+    return Array.from({ length: count }, (_, n) => this.number(at + BigInt(n * bits / 8), bits));
   }
 
   number(at, bits) {
@@ -87,6 +118,16 @@ class Library {
     return { said: utf8.text(bytes), line: numbers[1] };
   }
 
+  // The line of each instruction of a text without faults.
+  lines(text) {
+    const given = utf8.bytes(text);
+    return this.with_room([given.length, 4 * MOST_INSTRUCTIONS, 8], (from, into, told) => {
+      this.bytes(from, given.length).set(given);
+      this.check(this.exports.takhvoi_lines(from, BigInt(given.length), into, BigInt(MOST_INSTRUCTIONS), told));
+      return this.numbers(into, 32, this.number(told, 64));
+    });
+  }
+
   // The listing of the image of a source without a fault.
   compiled(source) {
     const { status, bytes } = this.convert("takhvoi_compile", source);
@@ -95,10 +136,34 @@ class Library {
   }
 }
 
+// The states of a machine before steps, as takhvoi_trace tells them.
+class States {
+  constructor(bytes) {
+    this.view = new DataView(bytes.buffer);
+  }
+
+  instruction(n) {
+    return this.view.getUint32(n * STATE_SIZE, true);
+  }
+
+  // Whether the verifier knows where a pointer leads.
+  is_good(n, pointer) {
+    return (this.view.getUint16(n * STATE_SIZE + 78, true) >> pointer & 1) === 1;
+  }
+
+  at(n) {
+    const from = n * STATE_SIZE;
+    const wide = (offset) => SLOTS.map((k) => this.view.getUint32(from + offset + 4 * k, true));
+    const words = (offset, count) => Array.from({ length: count }, (_, k) => this.view.getUint16(from + offset + 2 * k, true));
+    const [held] = words(76, 1);
+    return { pointers: wide(4), spans: wide(20), slots: wide(36), words: words(52, 8), counters: words(68, 4), held: SLOTS.map((slot) => (held >> slot & 1) === 1) };
+  }
+}
+
 // A kernel of the library, and its VM file in this page's memory.
 class ProvedKernel {
   constructor(library, area = 65536, region = 65536) {
-    this.library = library;
+    [this.library, this.region] = [library, region];
     this.at = library.exports.page_alloc(16n);
     library.bytes(this.at, 16).fill(0);
     this.room = library.exports.page_alloc(4096n);
@@ -167,26 +232,68 @@ class ProvedKernel {
     });
   }
 
-  // Runs a routine with the words w0 to w7 and lent blocks: its status, its output and its steps.
-  run(image, routine, words, lent) {
-    return this.library.with_room([16, 8, 2 * MOST_WORDS, 8], (from, blocks, into, told) => {
-      const put = (at, numbers) => numbers.forEach((n, i) => this.library.view.setUint16(Number(at) + 2 * i, n, true));
-      put(from, Array.from({ length: 8 }, (_, n) => words[n] || 0));
-      put(blocks, Array.from({ length: 4 }, (_, n) => lent[n] || 0));
-      const status = this.library.exports.takhvoi_run(this.at, image, routine, from, blocks, into, BigInt(MOST_WORDS), told, told + 4n);
-      const count = status === DONE ? this.library.number(told, 32) : 0;
-      const output = Array.from({ length: count }, (_, n) => this.library.number(into + BigInt(2 * n), 16));
-      const steps = this.library.number(told + 4n, 32);
-      if (status === DONE) this.perform();
-      return { status, output, steps };
+  // Gives `work` places for the words w0 to w7 and the lent blocks of a call, and then for so many bytes each.
+  with_call(words, lent, sizes, work) {
+    return this.library.with_room([16, 8, ...sizes], (from, blocks, ...places) => {
+      const put = (at, numbers, count) => {
+        for (let n = 0; n < count; n++) this.library.view.setUint16(Number(at) + 2 * n, numbers[n] || 0, true);
+      };
+      put(from, words, 8);
+      put(blocks, lent, 4);
+      return work(from, blocks, ...places);
     });
+  }
+
+  // Runs a routine with the words w0 to w7 and lent blocks: its status and its output.
+  run(image, routine, words, lent) {
+    return this.with_call(words, lent, [2 * MOST_WORDS, 8], (from, blocks, into, told) => {
+      const status = this.library.exports.takhvoi_run(this.at, image, routine, from, blocks, into, BigInt(MOST_WORDS), told, told + 4n);
+      const output = this.library.numbers(into, 16, status === DONE ? this.library.number(told, 32) : 0);
+      if (status === DONE) this.perform();
+      return { status, output };
+    });
+  }
+
+  // Runs a routine, and returns its words and output, how many steps it took, and at most so many states before them.
+  trace(image, routine, words, lent, most) {
+    return this.with_call(words, lent, [2 * MOST_WORDS, 8, STATE_SIZE * most], (from, blocks, into, told, noted) => {
+      this.check(this.library.exports.takhvoi_trace(this.at, image, routine, from, blocks, into, BigInt(MOST_WORDS), told, told + 4n, 0, noted, BigInt(most)));
+      const [count, steps] = this.library.numbers(told, 32, 2);
+      const states = new States(this.library.bytes(noted, STATE_SIZE * Math.min(steps, most)).slice());
+      return { words: this.library.numbers(from, 16, 8), output: this.library.numbers(into, 16, count), steps, states };
+    });
+  }
+
+  // What memory has before a step of a run, counted from 0: where blocks are, and the bytes of the region.
+  memory_at(image, routine, words, lent, step) {
+    return this.with_call(words, lent, [PLACE_SIZE * MOST_PLACES, 8, this.region], (from, blocks, into, told, region) => {
+      this.check(this.library.exports.takhvoi_memory_at(this.at, image, routine, from, blocks, step, into, BigInt(MOST_PLACES), told, region, BigInt(this.region)));
+      return this.memory_told(into, told, region);
+    });
+  }
+
+  // What memory has now.
+  memory_now() {
+    return this.library.with_room([PLACE_SIZE * MOST_PLACES, 8, this.region], (into, told, region) => {
+      this.check(this.library.exports.takhvoi_places(this.at, into, BigInt(MOST_PLACES), told));
+      this.check(this.library.exports.takhvoi_region(this.at, 0, region, BigInt(this.region)));
+      return this.memory_told(into, told, region);
+    });
+  }
+
+  memory_told(into, told, region) {
+    const places = Array.from({ length: this.library.number(told, 32) }, (_, n) => {
+      const [block, at, size, locks] = this.library.numbers(into + BigInt(PLACE_SIZE * n), 32, 4);
+      return { block, at, size, locks };
+    });
+    return { places, region: this.library.bytes(region, this.region).slice() };
   }
 
   // The handles that a call lists.
   list(name, ...words) {
     return this.library.with_room([2 * MOST_LISTED], (into) => {
       const [status, count] = this.call(name, [32], ...words, into, BigInt(MOST_LISTED));
-      return status === DONE ? Array.from({ length: count }, (_, n) => this.library.number(into + BigInt(2 * n), 16)) : [];
+      return status === DONE ? this.library.numbers(into, 16, count) : [];
     });
   }
 

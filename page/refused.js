@@ -1,6 +1,6 @@
 // A play of a refused routine: its steps in the model, up to the fault.
 
-const IS_PICTURE = "This is a picture that the script of this page draws, and not the machine: geos never runs a text that the verifier refuses.";
+const IS_PICTURE = "A picture by a model, not the machine: geos never runs a text that the verifier refuses.";
 
 /** @returns {Program | null} the program that a page shows, if the model can play it */
 function program_of({ page, routines }) {

@@ -61,14 +61,12 @@ function read_script(text) {
 
 const VM = 65536;
 
-// Runs scripts on an image in a kernel: that of the library, or that of the model.
+// Runs scripts on an image in a kernel of the library.
 class ScriptRun {
   // `borrows` has for each public routine the numbers of the slots that it borrows.
   constructor(kernel, image, borrows) {
     [this.kernel, this.image, this.borrows] = [kernel, image, borrows];
     this.names = new Map();
-    // How many steps the last call took.
-    this.steps = 0;
   }
 
   value({ name, value }) {
@@ -98,11 +96,10 @@ class ScriptRun {
     if (refusal) return ["refused", refusal];
     const places = [0, 0, 0, 0];
     slots.forEach((slot, n) => { places[slot] = handles[n]; });
-    const { status, output, steps } = this.kernel.run(this.image, routine, words.map((one) => this.value(one)), places);
+    const { status, output } = this.kernel.run(this.image, routine, words.map((one) => this.value(one)), places);
     handles.forEach((handle) => this.kernel.call("unlock", [], VM + handle));
     if (status !== 0) throw new ScriptFault(`${name} takes other words: see its in line`);
     if (stores && output.length) this.names.set(stores, output[0]);
-    this.steps = steps;
     return output;
   }
 

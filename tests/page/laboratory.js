@@ -61,15 +61,62 @@ function press(key) {
   steps_part(".slider").dispatchEvent(new KeyboardEvent("keydown", { key, bubbles: true, cancelable: true }));
 }
 
+// The text of the elements of the steps that a selector finds.
+const said_by = (selector) => [...document.querySelectorAll("#steps " + selector)].map((one) => one.textContent);
+
+// The bytes that a table shows. Rows that are left out are zeros.
+function bytes_in(table) {
+  const bytes = [];
+  for (const row of table.rows) {
+    const from = row.cells[0].textContent;
+    if (/^\d+$/.test(from)) [...row.cells].slice(1, -1).forEach((cell, n) => { bytes[+from + n] = cell.textContent; });
+  }
+  return (from, count) => Array.from({ length: count }, (_, n) => bytes[from + n] ?? "00").join("");
+}
+
+// The blocks that the steps show, by their names: for each chunk its handle, its place in the region, its length and its bytes.
+function blocks_shown() {
+  return new Map([...document.querySelectorAll("#steps .block")].map((part) => {
+    const [, name, place] = /^(.*): \d+ bytes at (\d+) /.exec(part.querySelector("h3").textContent);
+    const bytes = bytes_in(part.querySelector("table"));
+    const chunks = [...part.querySelectorAll(".chunks span")].map((one) => /(\d+): (\d+) bytes?(?: at (\d+))?/.exec(one.textContent).slice(1).map(Number));
+    return [name, chunks.filter(([, len]) => len).map(([chunk, len, at]) => [chunk, +place + at, len, bytes(at, len)].join(" ")).join("; ")];
+  }));
+}
+
+// What the steps show of slots, of pointers that are not stale, and of the blocks in slots.
+function memory_shown() {
+  const slots = said_by(".registers > span").flatMap((said) => /^s(\d) (.*)$/.exec(said) ? [said] : []);
+  const pointers = said_by(".pointer:not(.stale)").map((said) => said.replace(/^(p\d) .*, at/, "$1 at"));
+  const blocks = blocks_shown();
+  const names = new Set(slots.map((said) => said.slice(3)));
+  return [...slots, ...pointers, ...[...names].map((name) => `${name}: ${blocks.get(name)}`)].join(", ");
+}
+
+// The same from the page of `geos trace --html`.
+function memory_traced({ steps, states, blocks, explained }, place) {
+  const known = explained.split("\n").find((line) => line.startsWith(steps[place].line + "\t")).split(" ; ").pop();
+  const [state, all] = [states[place], [0, 1, 2, 3]];
+  const name = (owner, handle) => `block ${handle}${owner ? " of the file" : ""}`;
+  const held = all.filter((n) => known.includes(`s${n}=`)).map((n) => [n, name(state[13 + 2 * n], state[14 + 2 * n])]);
+  const good = all.filter((n) => known.includes(`p${n}=`)).map((n) => `p${n} at ${state[21 + 2 * n]}`);
+  const chunks = (wanted) => blocks.filter(([step, owner, handle]) => step <= place && name(owner, handle) === wanted).pop()[5].filter(([, , len]) => len);
+  return [...held.map(([n, said]) => `s${n} ${said}`), ...good, ...[...new Set(held.map(([, said]) => said))].map((said) => `${said}: ${chunks(said).map((chunk) => chunk.join(" ")).join("; ")}`)].join(", ");
+}
+
 // Whether the page shows what geos traced before a step, counted from 0.
 function compare_step(name, traced, place) {
+  const { steps } = traced;
   const now = document.getElementById("explained").contentDocument.querySelector(".lines .next .n")?.textContent;
-  const wanted = place < traced.length ? String(traced[place].line) : undefined;
+  const wanted = place < steps.length ? String(steps[place].line) : undefined;
   if (now !== wanted) differs.push(`${name}: line ${now} instead of ${wanted} at step ${place}`);
-  const said = `step ${place} of ${traced.length}`;
+  const said = `step ${place} of ${steps.length}`;
   if (steps_part(".slider").getAttribute("aria-valuetext") !== said || !steps_part(".place").textContent.toLowerCase().startsWith(said + ".")) differs.push(`${name}: ${said} is not said`);
   const of = registers();
-  if (place && (of("w", 8) !== traced[place - 1].words.join() || of("k", 4) !== traced[place - 1].counters.join())) differs.push(`${name}: registers at step ${place}`);
+  if (place && (of("w", 8) !== steps[place - 1].words.join() || of("k", 4) !== steps[place - 1].counters.join())) differs.push(`${name}: registers at step ${place}`);
+  const output = steps.slice(0, place).filter(({ did }) => did.startsWith("out ")).map(({ did }) => did.slice(4));
+  if ((steps_part(".out")?.textContent ?? "") !== ["output", ...output].join(" ").replace(/^output$/, "")) differs.push(`${name}: output at step ${place}`);
+  if (place < steps.length && memory_shown() !== memory_traced(traced, place)) differs.push(`${name}: at step ${place} ${memory_shown()} instead of ${memory_traced(traced, place)}`);
   struck += document.querySelectorAll("#steps .pointer.stale s").length;
 }
 
@@ -78,11 +125,13 @@ function step_through({ name, traced }) {
   document.getElementById("step").click();
   const list = document.getElementById("call");
   if (document.activeElement !== steps_part(".slider")) differs.push(`${name}: the steps have no focus`);
-  for (let place = 0; place <= Math.min(traced.length, MOST_COMPARED); place++) {
+  const { length } = traced.steps;
+  if (!/^The proved machine/.test(steps_part(".note").textContent)) differs.push(`${name}: the page does not say whose steps it shows`);
+  for (let place = 0; place <= Math.min(length, MOST_COMPARED); place++) {
     if (place) press("ArrowRight");
     compare_step(name, traced, place);
   }
-  for (const [key, place] of [["End", traced.length], ["ArrowRight", traced.length], ["ArrowLeft", traced.length - 1], ["Home", 0]]) {
+  for (const [key, place] of [["End", length], ["ArrowRight", length], ["ArrowLeft", length - 1], ["Home", 0]]) {
     press(key);
     compare_step(name, traced, place);
   }
@@ -99,10 +148,8 @@ function step_through({ name, traced }) {
   }
 }
 
-// What the page says if the model and the machine differ, and that no steps of an old text stay.
-function test_differences() {
-  const said = compared_words({ printed: [5], steps: 3 }, { printed: [6], steps: 3 });
-  if (said.getAttribute("role") !== "alert" || !said.textContent.includes("outputs 5 in 3 steps, but the model 6 in 3 steps")) differs.push(said.textContent);
+// No steps of an old text stay.
+function test_old_steps() {
   document.getElementById("script").dispatchEvent(new Event("input"));
   if (!document.getElementById("steps-part").hidden || steps_part(".play")) differs.push("old steps stay");
 }
@@ -131,7 +178,7 @@ loaded().then(async (laboratory) => {
     if (said + effects !== explained) differs.push(name);
   }
   for (const example of examples) await look_at(example);
-  test_differences();
+  test_old_steps();
   await test_sources();
   window.tell(`${texts.length} texts, ${examples.length} examples, ${runs} runs, ${calls} calls, ${struck ? "stale pointers" : "no stale pointer"}, ${differs.slice(0, 3).join("; ") || "all agree"}`);
 }).catch((fault) => window.tell(`${fault}`));

@@ -1,5 +1,5 @@
 """What geos prints of the laboratory's examples, and of texts with mistakes, as JSON: `laboratory.py TOP GEOS`. Of each example also the
-steps of its script's first call."""
+steps of its script's first call, and what the page of `geos trace --html` has of them: states, blocks, and what is known at each line."""
 
 import json
 import re
@@ -12,6 +12,7 @@ TOP, GEOS = Path(sys.argv[1]), sys.argv[2]
 sys.path.insert(0, str(TOP / "tools"))
 
 import laboratory  # noqa: E402
+import pages  # noqa: E402
 
 VERDICTS = {"accepted": r"\A(?!.*^; refused)\d+\t", "refused": r"^; refused by", "not assembled": ""}
 
@@ -49,14 +50,16 @@ def as_assembly(path: str) -> str:
     return listing
 
 
-def traced(path: str, script: str) -> list[dict] | None:
+def traced(path: str, script: str) -> dict | None:
     """The steps of the first call of a script, which begins as `geos trace` does: with a new VM file and no memory block."""
     call = re.search(r"^[ \t]*call[ \t]+([^;=\n]*?)[ \t]*(?:->.*)?(?:=>.*)?(?:;.*)?$", script, re.M)
     if not call:
         return None
     lines = geos("trace", path, *call[1].split(), "--json").splitlines()
     steps = [step for step in map(json.loads, lines) if step["kind"] == "step"]
-    return [{name: step[name] for name in ("line", "words", "counters")} for step in steps]
+    run = pages.make(GEOS, Path("run.html"), path, *call[1].split()).run
+    said = {name: run[name] for name in ("states", "blocks", "explained")}
+    return {"steps": [{name: step[name] for name in ("line", "words", "counters", "did")} for step in steps], **said}
 
 
 def examples() -> list[dict]:
