@@ -186,11 +186,11 @@ class Laboratory {
 
   show_steps(script, number) {
     this.mark(null);
-    const [program, lines] = [program_of_text(this.text), this.library.lines(this.text)];
+    const program = program_of_text(this.text);
     const noted = this.with_kernel((kernel, image) => noted_call(kernel, image, script, number), new NotingKernel(this.library));
-    const name = script.commands[number].call.name;
-    this.play = noted && new ProvedPlay(program, new ProvedSteps(program, lines, noted), name, (line) => this.mark(line));
-    $("steps").replaceChildren(this.play?.panel ?? node("p", { class: "quiet" }, "A block can't be lent, so the routine does not begin."));
+    const steps = noted && new ProvedSteps(program, this.library.lines(this.text), noted);
+    $("steps").replaceChildren(steps ? new ProvedPlay(program, steps, script.commands[number].call.name, (line) => this.mark(line)).panel
+      : node("p", { class: "quiet" }, "A block can't be lent, so the routine does not begin."));
   }
 }
 

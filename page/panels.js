@@ -20,16 +20,22 @@ function slot_cell(run, slot, place) {
   return register("s" + slot, "wide held" + (block.vm ? " vm" : ""), block.key, said);
 }
 
+// Where the bytes are now to which a stale pointer was set.
+function where_now(run, target, place) {
+  if (!run.block(target.key, place)?.locks) return "its block is not locked now";
+  const now = run.now_at(target, place);
+  return now === null ? "the chunk is gone" : now === target.at ? "the bytes are still there" : `the bytes are now at ${now}`;
+}
+
 function pointer_cell(run, pointer, place) {
   const target = run.targets[place][pointer];
   const name = "p" + pointer;
   if (!target) return register(name, "wide empty", "\u2013");
   const what = (target.element ? target.element + " of " : "") + `chunk ${target.chunk} of ${target.key}`;
   if (!target.stale) return register(name, "wide good", what, `${target.len} bytes at ${target.at}`);
-  const now = run.now_at(target, place);
-  const { number, code } = run.steps[target.stale - 1];
-  const where = now === null ? "the chunk is gone" : now === target.at ? "the bytes are still there" : `the bytes are now at ${now}`;
-  const cell = register(name, "wide stale", node("s", {}, what), `stale since ${run.place_word} ${number}: ${why_stale(code)}; ${where}`);
+  const { number } = run.steps[target.stale - 1];
+  const where = where_now(run, target, place);
+  const cell = register(name, "wide stale", node("s", {}, what), `stale since ${run.place_word} ${number}: ${run.why(target)}; ${where}`);
   cell.setAttribute("aria-label", `${name} is stale: ${what}, ${where}`);
   return cell;
 }
@@ -72,7 +78,8 @@ function show_block(run, place, chosen) {
   const was = place ? run.block(chosen, place - 1) : null;
   const tags = [node("span", { class: "tag" + (block.locks ? " held" : "") }, block.locks ? "locked " + times(block.locks) : "not locked: it may move, or be gone")];
   if (block.marked) tags.push(node("span", { class: "tag news" }, "marked as changed"));
-  if (was && was.placed && block.placed && was.from !== block.from) tags.push(node("span", { class: "tag news" }, `moved from ${was.from}`));
+  const moved = run.moved_from(block, place);
+  if (moved) tags.push(node("span", { class: "tag news" }, `moved from ${moved.from}`));
   const chunks = block.chunks.map((c) => chunk_panel(run, block, was?.locks ? was : null, c, place));
   const none = block.locks && !chunks.length ? node("p", { class: "quiet" }, "It has no chunk yet.") : null;
   $("block").replaceChildren(node("div", {}, ...tags), ...chunks, none || "");

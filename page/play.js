@@ -1,9 +1,8 @@
 // A play of a routine in the model: its steps, with memory as it is before and after each.
 
-const HUES = 6;
-
 /** Removes the mark of the next line. */
 const unmark_line = () => document.querySelectorAll(".lines .next").forEach((line) => line.classList.remove("next"));
+const hue_class = (chunk) => `hue${(chunk - TABLE) / 2 % HUES.length}`;
 const changed_if = (is_changed, text) => node("span", { class: is_changed ? "changed" : false }, text);
 
 // The steps of one routine, which a reader goes through by buttons, a slider or keys.
@@ -31,9 +30,10 @@ class Play {
       return made;
     };
     this.on = button("Next \u203a", "Next step", () => this.go(this.place + 1));
+    this.to_end = button("", "", () => this.go(this.last));
     return node("p", { class: "steps-of-play" },
       button("\u00ab Start", "To the start", () => this.go(0)), " ", button("\u2039 Back", "Step back", () => this.go(this.place - 1)), " ",
-      this.on, " ", button("End \u00bb", "To the end", () => this.go(this.last)), " ", node("span", { class: "quiet" }, "Keys: arrows, Home, End"));
+      this.on, " ", this.to_end, " ", node("span", { class: "quiet" }, "Keys: arrows, Home, End"));
   }
 
   slider_part() {
@@ -54,12 +54,14 @@ class Play {
     this.go(places[event.key]);
   }
 
-  /** Plays it to its end, and goes to a place. */
-  begin(place) {
+  /** Plays it to its end, and goes to its begin. */
+  begin() {
     const machine = this.machine_at(MOST_PLAYED);
     [this.last, this.end] = [machine.steps, machine];
     this.slider.max = this.last;
-    this.go(place ?? this.last);
+    this.to_end.textContent = machine.fault ? "Fault \u00bb" : "End \u00bb";
+    this.to_end.setAttribute("aria-label", machine.fault ? "To the fault" : "To the end");
+    this.go(0);
   }
 
   /** @returns {Machine} the machine after some steps */
@@ -89,9 +91,14 @@ class Play {
 
   show_place(before, now) {
     const done = this.place ? before.next : null;
-    const did = done ? `${with_capital(line_words(done))}: ${step_words(before, now).join("; ") || "no change"}.` : "Before the first step.";
+    const did = done ? `${with_capital(line_words(done))}: ${step_words(before, now).join("; ") || "no change"}.` : this.start_words();
     const next = now.is_over ? this.end_words(now) : this.place === MOST_PLAYED ? "The play ends here." : `Next: ${line_words(now.next)}.`;
     this.said.replaceChildren(node("b", {}, `Step ${this.place} of ${this.last}. `), did, " ", node("span", { class: now.fault ? "bad" : "quiet" }, next));
+  }
+
+  start_words() {
+    const comes = this.end.fault && this.last ? ` The fault comes after step ${this.last}.` : "";
+    return `Before the first step.${comes}`;
   }
 
   end_words(machine) {
@@ -108,13 +115,20 @@ class Play {
     const found = through(machine);
     const target = found && machine.targets[found.pointer];
     if (!found) return node("div", { class: "fault" }, node("p", {}, this.end_words(machine)));
-    const since = [this.set_words(target, found), target.stale && this.since_words(found.pointer, target.stale)].filter((said) => said);
+    const since = [this.set_words(target, found), target.stale && this.since_words(found.pointer, target)].filter((said) => said);
     return node("div", { class: "fault" }, node("p", {}, this.end_words(machine)), node("p", { class: "since" }, since.join(" ")),
       target.stale && this.compared(found, target.set), this.effect(machine, found));
   }
 
-  since_words(pointer, { step, pc }) {
-    return `p${pointer} is stale since step ${step}: ${line_words(this.program.code[pc])}.`;
+  since_words(pointer, target) {
+    return `p${pointer} is stale since step ${target.stale.step}: ${this.cause_words(target)}.`;
+  }
+
+  /** The instruction that made a pointer stale, and whether it freed the chunk. */
+  cause_words({ name, chunk, stale }) {
+    const instr = this.program.code[stale.pc];
+    const is_freed = FREEING.has(instr.op) && !has_chunk(this.machine_at(stale.step).kernel, name, chunk);
+    return `${line_words(instr)}${is_freed ? `, which freed chunk ${chunk}` : ""}`;
   }
 
   /** When a pointer was set, and where its bytes were then and are now. */
@@ -154,7 +168,7 @@ class Play {
   pointer(machine, n, target) {
     const said = `p${n} ${meant_words(target)}, at ${machine.spans[n].at}`;
     if (!target.stale) return node("span", { class: "pointer" }, said);
-    return node("span", { class: "pointer stale" }, node("s", {}, said), ` stale since ${line_words(this.program.code[target.stale.pc])}`);
+    return node("span", { class: "pointer stale" }, node("s", {}, said), ` stale since ${this.cause_words(target)}`);
   }
 
   /** The words that are out, the new one marked. */
@@ -178,7 +192,7 @@ class Play {
     const chunk_at = new Map(heap.chunks().flatMap(({ chunk, at, len }) => Array.from({ length: len }, (_, n) => [at + n, chunk])));
     const marks = this.marks(now, place);
     const kind_of = (i) => [
-      chunk_at.has(i) && `hue${(chunk_at.get(i) - TABLE) / 2 % HUES}`, this.place && old_bytes && (old_bytes[i] ?? 0) !== heap.bytes[i] && "changed", marks.get(i),
+      chunk_at.has(i) && hue_class(chunk_at.get(i)), this.place && old_bytes && (old_bytes[i] ?? 0) !== heap.bytes[i] && "changed", marks.get(i),
     ].filter((kind) => kind).join(" ") || false;
     const bytes = [...heap.bytes.subarray(0, MOST_DRAWN)];
     return node("div", { class: "block" }, node("h3", {}, `${block_words(name)}: ${size} bytes at ${place} of the region`),
@@ -186,7 +200,7 @@ class Play {
   }
 
   key_of_chunks(heap) {
-    const chunks = heap.chunks().map(({ chunk, at, len }) => node("span", { class: `hue${(chunk - TABLE) / 2 % HUES}` }, `chunk ${chunk}: ${count_bytes(len)}${len ? ` at ${at}` : ""}`));
+    const chunks = heap.chunks().map(({ chunk, at, len }) => node("span", { class: hue_class(chunk) }, `chunk ${chunk}: ${count_bytes(len)}${len ? ` at ${at}` : ""}`));
     return node("p", { class: "chunks" }, ...chunks.flatMap((one) => [one, " "]));
   }
 

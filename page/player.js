@@ -33,7 +33,7 @@ class Player {
     $("cut").textContent = cuts.join(" ");
     $("cut").hidden = !cuts.length;
     this.list_moments();
-    if (this.region.is_empty) $("region").append(node("p", { class: "quiet" }, "This run holds no chunk."));
+    if (this.region.is_empty) $("region").append(node("p", { class: "quiet" }, "This run holds no block."));
     else $("region").append(this.region.svg);
   }
 

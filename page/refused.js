@@ -79,7 +79,7 @@ function play_part(program, routine) {
   const number = program.number_of(routine.name);
   const is_refused = routine.lines.some((line) => line.findings.some(({ kind }) => kind === "error"));
   if (number < 0 || !is_refused) return null;
-  const button = node("button", { type: "button", class: "play-button", "aria-expanded": "false" }, "See the fault: play this routine in a model");
+  const button = node("button", { type: "button", class: "play-button", "aria-expanded": "false" }, "Step to the fault: play this routine in a model");
   const part = node("div", { class: "play-part" }, button);
   button.addEventListener("click", () => {
     const is_open = button.getAttribute("aria-expanded") === "true";

@@ -1,4 +1,4 @@
-// The picture of the region: chunks at their places, frames around the chunks of a block, and pointers.
+// The picture of the region: blocks as frames, the chunks in them, and pointers.
 
 // As wide as it is shown, so that letters keep their size.
 const WIDTH = window.innerWidth < 900 ? Math.max(320, window.innerWidth - 30) : Math.min(1000, window.innerWidth / 2);
@@ -11,7 +11,7 @@ class Region {
     this.run = run;
     this.choose = choose;
     this.pieces = new Map();
-    const blocks = [...run.blocks.values()].flat().map((entry) => entry.block).filter((b) => b.placed);
+    const blocks = [...run.blocks.values()].flat().map((entry) => entry.block).filter((b) => b.is_there);
     const from = Math.min(...blocks.map((b) => b.from), Infinity);
     const to = Math.max(...blocks.map((b) => b.to), 0);
     this.is_empty = !blocks.length;
@@ -55,32 +55,35 @@ class Region {
     const key = block.key + " chunk " + c.chunk;
     const group = this.piece(key, () => {
       const rect = draw("rect", { y: TOP + 6, height: HIGH - 12, rx: 2, fill: fill_of(c.chunk), stroke: line_of(c.chunk) });
-      return draw("g", { class: "move" }, draw("title"), rect, draw("text", { class: "axis", y: TOP + 24 }));
+      return draw("g", { class: "move" }, draw("title"), rect, draw("text", { class: "handle", y: TOP + 24, "text-anchor": "middle" }));
     });
     const wide = this.width(c.at, c.at + c.len);
     group.style.transform = `translate(${this.x(c.at)}px, 0)`;
     group.children[0].textContent = `chunk ${c.chunk} of ${block.key}: ${c.len} bytes at ${c.at}`;
     group.children[1].setAttribute("width", wide);
-    group.children[2].setAttribute("x", 5);
-    group.children[2].textContent = wide > 28 ? String(c.chunk) : "";
-    group.style.opacity = block.locks ? 1 : 0.4;
+    group.children[2].setAttribute("x", wide / 2);
+    group.children[2].textContent = wide > 20 ? String(c.chunk) : "";
     used.add(key);
   }
 
   // A frame, with a name that fits into the room before the next frame.
   put_frame(block, chosen, slots, room, used) {
     const group = this.piece(block.key, () => {
-      const made = draw("g", {}, draw("title"), draw("rect", { y: TOP, height: HIGH, rx: 4, x: -4 }), draw("text", { y: TOP - 7, x: -3 }));
+      const outer = draw("rect", { y: TOP, height: HIGH, rx: 4, x: 1 });
+      const inner = draw("rect", { class: "inner", y: TOP + 3, height: HIGH - 6, rx: 2, x: 4 });
+      const made = draw("g", {}, draw("title"), outer, inner, draw("text", { y: TOP - 7, x: 1 }));
       made.addEventListener("click", () => this.choose(block.key));
       return made;
     });
     const kinds = [block.vm && "vm", !block.locks && "free", block.key === chosen && "chosen"].filter((kind) => kind);
     group.setAttribute("class", ["move", "frame", ...kinds].join(" "));
     group.style.transform = `translate(${this.x(block.from)}px, 0)`;
-    group.children[0].textContent = `${block.key}, ${block.locks ? "locked " + block.locks + " times" : "not locked"}`;
-    group.children[1].setAttribute("width", this.width(block.from, block.to) + 8);
-    const names = [[block.key, ...slots].join(" \u2190 "), block.key, ""];
-    group.children[2].textContent = names.find((name) => name.length * LETTER <= room);
+    group.children[0].textContent = `${block.key}, ${block.locks ? "locked " + times(block.locks) : "not locked: it was here last"}`;
+    const wide = this.width(block.from, block.to);
+    group.children[1].setAttribute("width", Math.max(1, wide - 2));
+    group.children[2].setAttribute("width", Math.max(1, wide - 8));
+    const said = block.locks ? [block.key, ...slots].join(" \u2190 ") : `${block.key}, not locked`;
+    group.children[3].textContent = [said, block.key, ""].find((name) => name.length * LETTER <= room);
     used.add(block.key);
   }
 
@@ -89,7 +92,7 @@ class Region {
     const [old, to] = [(this.x(was.from) + this.x(was.to)) / 2, (this.x(now.from) + this.x(now.to)) / 2];
     const y = TOP - 3;
     this.above.append(
-      draw("rect", { class: "ghost", x: this.x(was.from) - 4, y: TOP, width: this.width(was.from, was.to) + 8, height: HIGH, rx: 4 }),
+      draw("rect", { class: "ghost", x: this.x(was.from) + 1, y: TOP, width: this.width(was.from, was.to) - 2, height: HIGH, rx: 4 }),
       draw("path", { class: "path", d: `M${old} ${y}C${old} ${y - 34} ${to} ${y - 34} ${to} ${y - 4}` }),
       draw("path", { class: "tip", d: `M${to - 5} ${y - 8}h10l-5 8z` }),
     );
@@ -109,19 +112,19 @@ class Region {
 
   show(place, chosen) {
     const used = new Set();
-    const blocks = this.run.blocks_at(place).filter((b) => b.placed);
+    const blocks = this.run.blocks_in_memory(place);
     this.above.replaceChildren();
     for (const block of blocks) {
       for (const c of block.chunks) this.put_chunk(block, c, used);
       const next = blocks.map((other) => other.from).filter((from) => from > block.from);
       const room = next.length ? this.x(Math.min(...next)) - this.x(block.from) - 4 : Infinity;
       this.put_frame(block, chosen, this.run.slots_of(block, place), room, used);
-      const was = place ? this.run.block(block.key, place - 1) : null;
-      if (was?.placed && was.locks && (was.from !== block.from)) this.moved(was, block);
+      const was = this.run.moved_from(block, place);
+      if (was) this.moved(was, block);
     }
     for (const [key, piece] of this.pieces) piece.style.display = used.has(key) ? "" : "none";
     this.run.targets[place].forEach((target, n) => target && this.pointer(n, target));
-    const said = blocks.map((b) => `${b.key} at ${b.from} to ${b.to}`).join(", ");
-    this.svg.setAttribute("aria-label", "The region: " + (said || "no chunk yet"));
+    const said = blocks.map((b) => `${b.key} at ${b.from} to ${b.to}${b.locks ? "" : ", not locked"}`).join("; ");
+    this.svg.setAttribute("aria-label", "The region: " + (said || "no block yet"));
   }
 }

@@ -8,6 +8,7 @@ const COMMITS = { VUPDATE: "current area committed", VSAVE: "saved area committe
 
 // Instructions that make pointers into their block stale, since its chunks may move, and those that unlock it.
 const MOVING = new Set("LALLOC LFREE LREALLOC LINS LDEL LCONTRACT CANEW CAADD CAINS CADEL CAZERO CARESIZE INEW IFREE IREALLOC IINS IDEL".split(" "));
+const FREEING = new Set(["LFREE", "IFREE"]);
 const UNLOCKING = new Set(["MUNLOCK", "VUNLOCK", "IUNLOCK"]);
 
 const PASSING = { CALL: "the called routine does not know it", RET: "the caller does not know it" };
@@ -39,11 +40,9 @@ function state_of(row) {
   };
 }
 
-function block_of([, owner, handle, locks, marked, chunks]) {
+function block_of([, owner, handle, locks, marked, chunks, from, size]) {
   const list = chunks.map(([chunk, at, len, hex]) => ({ chunk, at, len, hex }));
-  const from = Math.min(...list.map((c) => c.at));
-  const to = Math.max(...list.map((c) => c.at + c.len));
-  return { key: key_of(owner, handle), vm: owner === 1, handle, locks, marked, chunks: list, from, to, placed: list.length > 0 };
+  return { key: key_of(owner, handle), vm: owner === 1, handle, locks, marked, chunks: list, from, to: from + size, is_there: size > 0 };
 }
 
 // For each block the places at which it changed, and how. Rows have the numbers of steps.
@@ -94,27 +93,39 @@ class Run {
     this.moments = this.find_moments();
   }
 
+  // A block as it was before the step before a place, if that step moved it. One that no slot names may have moved earlier.
+  moved_from(block, place) {
+    const was = place && this.state(place - 1).slots.includes(block.key) ? this.block(block.key, place - 1) : null;
+    return was?.is_there && block.is_there && was.from !== block.from ? was : null;
+  }
+
   // Blocks that moved in the step before a place.
   moves(place) {
-    return this.blocks_at(place).filter((block) => this.has_changed(block.key, place)).flatMap((block) => {
-      const was = place ? this.block(block.key, place - 1) : null;
-      return was && was.locks && was.placed && block.placed && was.from !== block.from ? [`${block.key} moved from ${was.from} to ${block.from}`] : [];
+    return this.blocks_at(place).flatMap((block) => {
+      const was = this.moved_from(block, place);
+      return was ? [`${block.key} moved from ${was.from} to ${block.from}`] : [];
     });
   }
 
-  // Pointers that are stale since the step before a place, and why: its instruction moved their block, or may move their chunks.
+  // Pointers that are stale since the step before a place, and why.
   stale_since(place) {
-    const stale = place ? [0, 1, 2, 3].filter((n) => this.targets[place][n]?.stale === place) : [];
-    if (!stale.length) return [];
-    const { code } = this.steps[place - 1];
-    const has_moved = stale.every((n) => this.has_moved(this.targets[place][n].key, place));
-    const why = has_moved ? `${code.split(" ")[0]} moved ${stale.length > 1 ? "their" : "its"} block` : why_stale(code);
-    return [`${stale.map((n) => "p" + n).join(", ")} ${stale.length > 1 ? "are" : "is"} stale: ${why}`];
+    const reasons = new Map();
+    for (const n of place ? [0, 1, 2, 3] : []) {
+      const target = this.targets[place][n];
+      if (target?.stale === place) reasons.set(this.why(target), [...(reasons.get(this.why(target)) ?? []), "p" + n]);
+    }
+    return [...reasons].map(([why, names]) => `${names.join(", ")} ${names.length > 1 ? "are" : "is"} stale: ${why}`);
   }
 
-  // Whether a block moved in the step before a place.
-  has_moved(key, place) {
-    return this.moves(place).some((said) => said.startsWith(`${key} moved `));
+  // Why a pointer is stale: what its instruction did to its chunk, or may do.
+  why({ key, chunk, stale }) {
+    const { code } = this.steps[stale - 1];
+    const name = code.split(" ")[0];
+    const block = this.block(key, stale);
+    if (block && this.moved_from(block, stale)) return `${name} moved ${key}`;
+    const [was, now] = [stale - 1, stale].map((place) => this.block(key, place)?.chunks.find((one) => one.chunk === chunk));
+    if (was && !now && FREEING.has(name)) return `${name} freed its chunk`;
+    return was && now && was.at !== now.at ? `${name} moved its chunk` : why_stale(code);
   }
 
   // Whether an instruction moves chunks or unlocks a block in the step before a place.
@@ -174,6 +185,13 @@ class Run {
 
   block(key, place) {
     return latest(this.blocks.get(key) || [], place)?.block || null;
+  }
+
+  // The blocks in memory. One that no slot names may have moved since, or be gone: then another one may be at its place.
+  blocks_in_memory(place) {
+    const past = [...this.blocks.keys()].map((key) => latest(this.blocks.get(key), place)).filter((entry) => entry?.block.is_there);
+    const is_over = (old, { place: since, block }) => since > old.place && block.from < old.block.to && old.block.from < block.to;
+    return past.filter((old) => !past.some((entry) => is_over(old, entry))).map(({ block }) => block);
   }
 
   // Whether something of a block changed in the step before a place.

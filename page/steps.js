@@ -170,7 +170,7 @@ class ProvedPlay extends Play {
     const all = steps.noted.steps;
     const cut = all > steps.last ? node("p", { class: "cut" }, `The page shows the first ${steps.last} of ${all} steps.`) : null;
     this.make_panel(`Steps of ${name}`, node("p", { class: "note proved" }, IS_PROVED), ...(cut ? [cut] : []));
-    this.begin(0);
+    this.begin();
   }
 
   machine_at(place) {

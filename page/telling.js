@@ -34,6 +34,12 @@ function what_lies_at(kernel, at) {
   return entry ? `${part_of_heap(kernel.blocks.heap(entry.name), at - entry.place)} of ${block_words(entry.name)}` : "no block";
 }
 
+// Instructions that free a chunk.
+const FREEING = new Set(["LFREE", "IFREE"]);
+
+/** Whether a block is there with a chunk. */
+const has_chunk = (kernel, name, chunk) => kernel.blocks.entry(name) !== undefined && kernel.blocks.heap(name).chunks().some((one) => one.chunk === chunk);
+
 /** Where the bytes are now for which a pointer was set, or `null` if they are no longer there. */
 function place_now(kernel, { name, chunk, offset, len }) {
   const entry = kernel.blocks.entry(name);

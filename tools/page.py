@@ -13,7 +13,7 @@ from pathlib import Path
 TOP = Path(__file__).resolve().parent.parent
 HEAD = "//! {}. Made by tools/page.py from page/.\n"
 # The script at which the part after a run is cut in two.
-PANELS = "panels.js"
+PANELS = "region.js"
 # A line in the place of a style sheet.
 STYLE = re.compile(r"/\* (\w+\.css) \*/\n")
 

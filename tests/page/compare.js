@@ -11,16 +11,16 @@ function state_of_model(machine) {
   return [machine.pc, ...machine.words, ...machine.counters, ...names, ...spans];
 }
 
-// What the program notes of a block: its owner, handle, locks and mark, and its chunks if it is locked, up to a handle.
+// What the program notes of a block: its owner, handle, locks and mark, its chunks up to a handle if it is locked, its place and its size.
 function block_of_model(kernel, name, last) {
   const { blocks, listed } = kernel;
   const locks = blocks.locks(name);
   const marked = +(name.vm && listed.get(name.handle)?.marked === true);
   const chunks = locks ? blocks.heap(name).chunks().filter(({ chunk }) => chunk <= last) : [];
-  const from = blocks.entry(name)?.place ?? 0;
+  const [from, size] = [blocks.entry(name)?.place ?? 0, blocks.entry(name)?.size ?? 0];
   // An empty chunk has no place, so the program notes the begin of its block.
   const noted = chunks.map(({ chunk, at, len }) => [chunk, from + at, len, hex_of(blocks.region.slice(from + at, from + at + Math.min(len, MOST_BYTES)))]);
-  return [+name.vm, name.handle, locks, marked, noted];
+  return [+name.vm, name.handle, locks, marked, noted, from, size];
 }
 
 // What the program last noted of the block of a slot.

@@ -154,6 +154,20 @@ function test_old_steps() {
   if (!document.getElementById("steps-part").hidden || steps_part(".play")) differs.push("old steps stay");
 }
 
+// Of a call with many steps, the page says how many it leaves out.
+async function test_long_call() {
+  const next = next_page();
+  document.getElementById("language").value = "asm";
+  document.getElementById("script").value = "call main";
+  document.getElementById("text").value = "routine main public budget 20003\n        SETK k0 20000\na:      LOOP k0 a\n        RET\n";
+  document.getElementById("language").dispatchEvent(new Event("change"));
+  await next;
+  document.getElementById("step").click();
+  press("End");
+  if (!/\b10000 of 20003 steps/.test(steps_part(".cut").textContent)) differs.push("steps that are left out");
+  if (registers()("k", 1) !== "10001" || !steps_part(".place").textContent.startsWith("Step 10000 of 10000.")) differs.push(`the last step that is shown: ${steps_part(".place").textContent}`);
+}
+
 // A source with a fault is faulty at its line, and one without is accepted.
 async function test_sources() {
   document.getElementById("language").value = "tkv";
@@ -179,6 +193,7 @@ loaded().then(async (laboratory) => {
   }
   for (const example of examples) await look_at(example);
   test_old_steps();
+  await test_long_call();
   await test_sources();
   window.tell(`${texts.length} texts, ${examples.length} examples, ${runs} runs, ${calls} calls, ${struck ? "stale pointers" : "no stale pointer"}, ${differs.slice(0, 3).join("; ") || "all agree"}`);
 }).catch((fault) => window.tell(`${fault}`));

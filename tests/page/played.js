@@ -41,17 +41,17 @@ function test_colours() {
   }
 }
 
-// The play of a routine by the keyboard: opens it, steps back and on, and returns what the page says at the end.
+// The play of a routine by the keyboard: opens it before its first step, goes to its end, back and on, and returns what the page says at the end.
 function play(button) {
   button.focus();
   if (document.activeElement !== button || button.tabIndex !== 0) wrong.push("the button has no focus");
   button.click();
   const panel = in_part(button.parentNode, ".play");
   const status = in_part(panel, ".place");
-  const [, last] = /^Step (\d+) of \d+/.exec(status.textContent) ?? [];
+  const [, last] = /^Step 0 of (\d+)\. (?:Before the first step|A fault)/.exec(status.textContent) ?? [];
   const at = (place) => { if (!status.textContent.startsWith(`Step ${place} of ${last}.`)) wrong.push(`step ${place} is missing: ${status.textContent}`); };
   if (!panel.contains(document.activeElement)) wrong.push("the panel has no focus");
-  for (const [key, place] of [["ArrowLeft", Math.max(0, last - 1)], ["ArrowRight", +last], ["Home", 0], ["ArrowLeft", 0], ["End", +last], ["ArrowRight", +last]]) {
+  for (const [key, place] of [["End", +last], ["ArrowLeft", Math.max(0, last - 1)], ["ArrowRight", +last], ["Home", 0], ["ArrowLeft", 0], ["End", +last], ["ArrowRight", +last]]) {
     press(document.activeElement, key);
     at(place);
   }

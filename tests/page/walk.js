@@ -24,12 +24,22 @@ function compare(place) {
   const is_line = place >= run.states.length || current === run.traced.split("\n")[place].split(/\s/)[0];
   if (words().join() !== state.slice(1, 9).join()) differs.push(`words at ${place}`);
   if (!is_line) differs.push(`line at ${place}: ${current} and ${line}`);
+  for (const frame of document.querySelectorAll("#region .frame")) look_at_frame(frame, place + run.skipped);
 }
 
-// The places of a block in the run: those of its first chunks.
+// A frame is dashed if its block is not locked, and double if its block is one of the file.
+function look_at_frame(frame, step) {
+  if (frame.style.display === "none") return;
+  const [name] = frame.querySelector("title").textContent.split(",");
+  const [, owner, , locks] = run.blocks.filter(([n, owner, handle]) => n <= step && (owner ? "file block " : "block ") + handle === name).pop();
+  const [outer, inner] = [...frame.querySelectorAll("rect")].map((rect) => getComputedStyle(rect));
+  if ((outer.strokeDasharray !== "none") !== (locks === 0) || (inner.display !== "none") !== (owner === 1)) differs.push(`the frame of ${name} at ${step}`);
+}
+
+// The places of a block in the run.
 function places_of(name) {
   const rows = run.blocks.filter(([, owner, handle]) => (owner ? "file block " : "block ") + handle === name);
-  return new Set(rows.map((row) => Math.min(...row[5].map(([, at]) => at))));
+  return new Set(rows.map((row) => row[6]));
 }
 
 // Each step in the list at the top is one after which the page says the same, and blocks were at both places.

@@ -65,6 +65,7 @@ footer { margin-top: 20px; font-size: 12.5px; }
 .play-part button:hover { background: var(--wash); }
 .play { margin-top: 8px; padding: 10px 14px; background: var(--card); border: 1px solid var(--line); border-radius: 10px; overflow: hidden; overflow-wrap: anywhere; }
 .play .note { color: var(--warm); font-weight: 600; }
+.play .proved { color: var(--good); }
 .play form, .steps-of-play { margin: 8px 0; }
 .play input { font: 13px var(--mono); color: var(--ink); background: var(--paper); border: 1px solid var(--line); border-radius: 6px; padding: 3px 8px; max-width: 100%; }
 .play .slider { width: 100%; padding: 0; accent-color: var(--blue); }
@@ -84,12 +85,12 @@ footer { margin-top: 20px; font-size: 12.5px; }
 .block h3 { margin: 0 0 2px; font: 600 12.5px/1.6 var(--mono); }
 .chunks { font: 12px/1.7 var(--mono); }
 .chunks span { padding: 0 6px; border-radius: 6px; }
-.hue0 { background: hsl(210 65% var(--chunk)); }
-.hue1 { background: hsl(277 65% var(--chunk)); }
-.hue2 { background: hsl(150 55% var(--chunk)); }
-.hue3 { background: hsl(40 70% var(--chunk)); }
-.hue4 { background: hsl(330 60% var(--chunk)); }
-.hue5 { background: hsl(90 50% var(--chunk)); }
+.hue0 { background: hsl(180 65% var(--chunk)); }
+.hue1 { background: hsl(40 65% var(--chunk)); }
+.hue2 { background: hsl(330 65% var(--chunk)); }
+.hue3 { background: hsl(95 65% var(--chunk)); }
+.hue4 { background: hsl(15 65% var(--chunk)); }
+.hue5 { background: hsl(150 65% var(--chunk)); }
 .bytes .led { border-bottom-color: var(--bad); color: var(--bad); font-weight: 700; }
 .bytes .meant { border-bottom: 2px dotted var(--good); }
 .bytes .good { border-bottom-color: var(--good); }

@@ -70,8 +70,22 @@ pub(crate) fn put_name(out: &mut Json, name: Name) {
     out.put_numbers(&[owner_number(name), name.h]);
 }
 
-/// Appends a block, and its chunks with handles up to `last`: owner, handle, how often it is locked, whether it is marked as changed, and its
-/// chunks. Returns the highest handle of a chunk. A block that is not locked has no chunks here.
+/// Appends where a block begins in the region, and its size; two zeros if it is not in memory.
+fn put_place<D: Device + Drop>(out: &mut Json, kernel: &Kernel<D>, name: Name) {
+    let blocks = kernel.blocks();
+    let (at, size) = if blocks.has(name) {
+        (blocks.place(name), blocks.size(name))
+    } else {
+        (0, 0)
+    };
+    out.put(b",");
+    out.put_number(u64::from(at));
+    out.put(b",");
+    out.put_number(u64::from(size));
+}
+
+/// Appends a block, and its chunks with handles up to `last`: owner, handle, how often it is locked, whether it is marked as changed, its
+/// chunks, and its place. Returns the highest handle of a chunk. A block that is not locked has no chunks here.
 pub(crate) fn put_block<D: Device + Drop>(
     out: &mut Json,
     kernel: &Kernel<D>,
@@ -89,5 +103,6 @@ pub(crate) fn put_block<D: Device + Drop>(
         0
     };
     out.put(b"]");
+    put_place(out, kernel, name);
     highest
 }

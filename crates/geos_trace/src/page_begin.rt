@@ -108,22 +108,28 @@ main { display: grid; grid-template-columns: minmax(0, 9fr) minmax(0, 10fr); gap
 #region svg { display: block; width: 100%; height: auto; font-family: var(--mono); }
 #key { display: flex; flex-wrap: wrap; gap: 0 14px; margin-top: 4px; color: var(--soft); font-size: 12px; }
 #key span::before { content: \"\"; display: inline-block; width: 16px; height: 10px; margin-right: 6px; vertical-align: middle; border: 2px solid var(--blue); border-radius: 3px; }
-#key .file-key::before { border-color: var(--vm); }
-#key .ghost-key::before { border: 1.5px dashed var(--warm); }
+#key .free-key::before { border: 1.2px dashed var(--blue); }
+#key .file-key::before { height: 12px; border: 4px double var(--vm); }
+#key .chunk-key::before { content: \"16\"; border: 1px solid hsl(180 50% var(--chunk-line)); background: hsl(180 65% var(--chunk)); width: 22px; height: 14px; font-size: 10px; line-height: 12px; text-align: center; border-radius: 2px; }
+#key .ghost-key::before { border: 2px dotted var(--warm); }
 #key .good-key::before, #key .stale-key::before { height: 0; border-width: 2px 0 0; border-color: var(--good); border-radius: 0; }
 #key .stale-key::before { border-top-style: dashed; border-color: var(--bad); }
 .move { transition: transform .45s ease, opacity .3s; }
 .frame rect { fill: none; stroke: var(--blue); stroke-width: 2; }
 .frame.vm rect { stroke: var(--vm); }
-.frame.free rect { stroke-dasharray: 4 3; opacity: .5; }
+.frame .inner { display: none; stroke-width: 1; }
+.frame.vm .inner { display: inline; }
+.frame.free rect { stroke-width: 1.2; stroke-dasharray: 6 4; }
+.frame.free text { font-weight: 400; }
 .frame text { fill: var(--blue); font-weight: 600; font-size: 13px; }
 .frame.vm text { fill: var(--vm); }
 .frame.chosen rect { stroke-width: 3.5; }
 .frame { cursor: pointer; }
-.ghost { fill: none; stroke: var(--warm); stroke-dasharray: 4 3; }
+.ghost { fill: none; stroke: var(--warm); stroke-width: 2; stroke-dasharray: 0.1 5; stroke-linecap: round; }
 .path { fill: none; stroke: var(--warm); stroke-width: 1.6; }
 .tip { fill: var(--warm); }
 .axis { fill: var(--faint); font-size: 11px; }
+.handle { fill: var(--ink); font-size: 11px; }
 .axis-line { stroke: var(--line); }
 .arrow { fill: none; stroke-width: 2; }
 .arrow.good, .label.good { stroke: var(--good); }
@@ -195,7 +201,7 @@ main { display: grid; grid-template-columns: minmax(0, 9fr) minmax(0, 10fr); gap
 <section aria-labelledby=\"region-title\">
 <h2 id=\"region-title\">Region <small>the memory of all blocks, by its bytes</small></h2>
 <div id=\"region\"></div>
-<p id=\"key\" aria-hidden=\"true\"><span class=\"block-key\">block</span><span class=\"file-key\">block of the file</span><span class=\"ghost-key\">place before a move</span><span class=\"good-key\">pointer</span><span class=\"stale-key\">stale pointer</span></p>
+<p id=\"key\" aria-hidden=\"true\"><span class=\"block-key\">locked block</span><span class=\"free-key\">not locked: it was here last</span><span class=\"file-key\">block of the file</span><span class=\"chunk-key\">chunk with its handle</span><span class=\"ghost-key\">place before a move</span><span class=\"good-key\">pointer</span><span class=\"stale-key\">stale pointer</span></p>
 </section>
 <section aria-labelledby=\"blocks-title\">
 <h2 id=\"blocks-title\">Blocks</h2>
@@ -213,7 +219,7 @@ main { display: grid; grid-template-columns: minmax(0, 9fr) minmax(0, 10fr); gap
 </section>
 </main>
 <footer>
-<p>Registers, places and bytes are those of the machine that ran. A frame goes from the first chunk of a block to its last: the page does not know where the block itself begins.</p>
+<p>Registers, places and bytes are those of the machine that ran. Of a block that no slot names, the page does not know whether it has moved since.</p>
 <p>Keys: left and right, Page Up and Page Down, Home and End; space plays; N and P go to the next and the previous step at the same line.</p>
 </footer>
 <script type=\"application/json\" id=\"run\">

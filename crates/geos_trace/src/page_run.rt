@@ -90,7 +90,9 @@ function byte_rows(bytes, kind_of) {
   return rows;
 }
 
-const hue_of = (chunk) => ((chunk - 16) / 2 * 67 + 210) % 360;
+// Hues of chunks, in turn by their handles. None is the blue of blocks or the violet of blocks of the file.
+const HUES = [180, 40, 330, 95, 15, 150];
+const hue_of = (chunk) => HUES[(chunk - 16) / 2 % HUES.length];
 const fill_of = (chunk) => `hsl(${hue_of(chunk)} 65% var(--chunk))`;
 const line_of = (chunk) => `hsl(${hue_of(chunk)} 50% var(--chunk-line))`;
 
@@ -104,6 +106,7 @@ const COMMITS = { VUPDATE: \"current area committed\", VSAVE: \"saved area commi
 
 // Instructions that make pointers into their block stale, since its chunks may move, and those that unlock it.
 const MOVING = new Set(\"LALLOC LFREE LREALLOC LINS LDEL LCONTRACT CANEW CAADD CAINS CADEL CAZERO CARESIZE INEW IFREE IREALLOC IINS IDEL\".split(\" \"));
+const FREEING = new Set([\"LFREE\", \"IFREE\"]);
 const UNLOCKING = new Set([\"MUNLOCK\", \"VUNLOCK\", \"IUNLOCK\"]);
 
 const PASSING = { CALL: \"the called routine does not know it\", RET: \"the caller does not know it\" };
@@ -135,11 +138,9 @@ function state_of(row) {
   };
 }
 
-function block_of([, owner, handle, locks, marked, chunks]) {
+function block_of([, owner, handle, locks, marked, chunks, from, size]) {
   const list = chunks.map(([chunk, at, len, hex]) => ({ chunk, at, len, hex }));
-  const from = Math.min(...list.map((c) => c.at));
-  const to = Math.max(...list.map((c) => c.at + c.len));
-  return { key: key_of(owner, handle), vm: owner === 1, handle, locks, marked, chunks: list, from, to, placed: list.length > 0 };
+  return { key: key_of(owner, handle), vm: owner === 1, handle, locks, marked, chunks: list, from, to: from + size, is_there: size > 0 };
 }
 
 // For each block the places at which it changed, and how. Rows have the numbers of steps.
@@ -190,27 +191,39 @@ class Run {
     this.moments = this.find_moments();
   }
 
+  // A block as it was before the step before a place, if that step moved it. One that no slot names may have moved earlier.
+  moved_from(block, place) {
+    const was = place && this.state(place - 1).slots.includes(block.key) ? this.block(block.key, place - 1) : null;
+    return was?.is_there && block.is_there && was.from !== block.from ? was : null;
+  }
+
   // Blocks that moved in the step before a place.
   moves(place) {
-    return this.blocks_at(place).filter((block) => this.has_changed(block.key, place)).flatMap((block) => {
-      const was = place ? this.block(block.key, place - 1) : null;
-      return was && was.locks && was.placed && block.placed && was.from !== block.from ? [`${block.key} moved from ${was.from} to ${block.from}`] : [];
+    return this.blocks_at(place).flatMap((block) => {
+      const was = this.moved_from(block, place);
+      return was ? [`${block.key} moved from ${was.from} to ${block.from}`] : [];
     });
   }
 
-  // Pointers that are stale since the step before a place, and why: its instruction moved their block, or may move their chunks.
+  // Pointers that are stale since the step before a place, and why.
   stale_since(place) {
-    const stale = place ? [0, 1, 2, 3].filter((n) => this.targets[place][n]?.stale === place) : [];
-    if (!stale.length) return [];
-    const { code } = this.steps[place - 1];
-    const has_moved = stale.every((n) => this.has_moved(this.targets[place][n].key, place));
-    const why = has_moved ? `${code.split(\" \")[0]} moved ${stale.length > 1 ? \"their\" : \"its\"} block` : why_stale(code);
-    return [`${stale.map((n) => \"p\" + n).join(\", \")} ${stale.length > 1 ? \"are\" : \"is\"} stale: ${why}`];
+    const reasons = new Map();
+    for (const n of place ? [0, 1, 2, 3] : []) {
+      const target = this.targets[place][n];
+      if (target?.stale === place) reasons.set(this.why(target), [...(reasons.get(this.why(target)) ?? []), \"p\" + n]);
+    }
+    return [...reasons].map(([why, names]) => `${names.join(\", \")} ${names.length > 1 ? \"are\" : \"is\"} stale: ${why}`);
   }
 
-  // Whether a block moved in the step before a place.
-  has_moved(key, place) {
-    return this.moves(place).some((said) => said.startsWith(`${key} moved `));
+  // Why a pointer is stale: what its instruction did to its chunk, or may do.
+  why({ key, chunk, stale }) {
+    const { code } = this.steps[stale - 1];
+    const name = code.split(\" \")[0];
+    const block = this.block(key, stale);
+    if (block && this.moved_from(block, stale)) return `${name} moved ${key}`;
+    const [was, now] = [stale - 1, stale].map((place) => this.block(key, place)?.chunks.find((one) => one.chunk === chunk));
+    if (was && !now && FREEING.has(name)) return `${name} freed its chunk`;
+    return was && now && was.at !== now.at ? `${name} moved its chunk` : why_stale(code);
   }
 
   // Whether an instruction moves chunks or unlocks a block in the step before a place.
@@ -270,6 +283,13 @@ class Run {
 
   block(key, place) {
     return latest(this.blocks.get(key) || [], place)?.block || null;
+  }
+
+  // The blocks in memory. One that no slot names may have moved since, or be gone: then another one may be at its place.
+  blocks_in_memory(place) {
+    const past = [...this.blocks.keys()].map((key) => latest(this.blocks.get(key), place)).filter((entry) => entry?.block.is_there);
+    const is_over = (old, { place: since, block }) => since > old.place && block.from < old.block.to && old.block.from < block.to;
+    return past.filter((old) => !past.some((entry) => is_over(old, entry))).map(({ block }) => block);
   }
 
   // Whether something of a block changed in the step before a place.
@@ -334,134 +354,6 @@ class Run {
     const block = this.block(target.key, place);
     const chunk = block?.locks ? block.chunks.find((c) => c.chunk === target.chunk) : null;
     return chunk ? chunk.at + target.offset : null;
-  }
-}
-
-// The picture of the region: chunks at their places, frames around the chunks of a block, and pointers.
-
-// As wide as it is shown, so that letters keep their size.
-const WIDTH = window.innerWidth < 900 ? Math.max(320, window.innerWidth - 30) : Math.min(1000, window.innerWidth / 2);
-const [TOP, HIGH, EDGE] = [40, 40, 14];
-// The width of a letter of a frame's name.
-const LETTER = 8;
-
-class Region {
-  constructor(run, choose) {
-    this.run = run;
-    this.choose = choose;
-    this.pieces = new Map();
-    const blocks = [...run.blocks.values()].flat().map((entry) => entry.block).filter((b) => b.placed);
-    const from = Math.min(...blocks.map((b) => b.from), Infinity);
-    const to = Math.max(...blocks.map((b) => b.to), 0);
-    this.is_empty = !blocks.length;
-    this.from = Math.max(0, Math.floor((from - 24) / 16) * 16);
-    this.to = Math.max(this.from + 64, Math.ceil((to + 16) / 16) * 16);
-    this.svg = draw(\"svg\", { viewBox: `0 0 ${WIDTH} 150`, role: \"img\" });
-    this.below = draw(\"g\");
-    this.above = draw(\"g\");
-    this.svg.append(this.axis(), this.below, this.above);
-  }
-
-  x(at) {
-    return EDGE + (at - this.from) / (this.to - this.from) * (WIDTH - 2 * EDGE);
-  }
-
-  axis() {
-    const group = draw(\"g\");
-    group.append(draw(\"line\", { class: \"axis-line\", x1: EDGE, x2: WIDTH - EDGE, y1: TOP + HIGH, y2: TOP + HIGH }));
-    const parts = WIDTH < 500 ? 4 : 8;
-    for (let n = 0; n <= parts; n++) {
-      const at = Math.round(this.from + (this.to - this.from) * n / parts);
-      group.append(draw(\"text\", { class: \"axis\", x: this.x(at), y: 142, \"text-anchor\": n ? n < parts ? \"middle\" : \"end\" : \"start\" }, String(at)));
-    }
-    return group;
-  }
-
-  // A piece that stays while it moves.
-  piece(key, make) {
-    if (!this.pieces.has(key)) {
-      this.pieces.set(key, make());
-      this.below.append(this.pieces.get(key));
-    }
-    return this.pieces.get(key);
-  }
-
-  width(from, to) {
-    return Math.max(3, this.x(to) - this.x(from));
-  }
-
-  put_chunk(block, c, used) {
-    const key = block.key + \" chunk \" + c.chunk;
-    const group = this.piece(key, () => {
-      const rect = draw(\"rect\", { y: TOP + 6, height: HIGH - 12, rx: 2, fill: fill_of(c.chunk), stroke: line_of(c.chunk) });
-      return draw(\"g\", { class: \"move\" }, draw(\"title\"), rect, draw(\"text\", { class: \"axis\", y: TOP + 24 }));
-    });
-    const wide = this.width(c.at, c.at + c.len);
-    group.style.transform = `translate(${this.x(c.at)}px, 0)`;
-    group.children[0].textContent = `chunk ${c.chunk} of ${block.key}: ${c.len} bytes at ${c.at}`;
-    group.children[1].setAttribute(\"width\", wide);
-    group.children[2].setAttribute(\"x\", 5);
-    group.children[2].textContent = wide > 28 ? String(c.chunk) : \"\";
-    group.style.opacity = block.locks ? 1 : 0.4;
-    used.add(key);
-  }
-
-  // A frame, with a name that fits into the room before the next frame.
-  put_frame(block, chosen, slots, room, used) {
-    const group = this.piece(block.key, () => {
-      const made = draw(\"g\", {}, draw(\"title\"), draw(\"rect\", { y: TOP, height: HIGH, rx: 4, x: -4 }), draw(\"text\", { y: TOP - 7, x: -3 }));
-      made.addEventListener(\"click\", () => this.choose(block.key));
-      return made;
-    });
-    const kinds = [block.vm && \"vm\", !block.locks && \"free\", block.key === chosen && \"chosen\"].filter((kind) => kind);
-    group.setAttribute(\"class\", [\"move\", \"frame\", ...kinds].join(\" \"));
-    group.style.transform = `translate(${this.x(block.from)}px, 0)`;
-    group.children[0].textContent = `${block.key}, ${block.locks ? \"locked \" + block.locks + \" times\" : \"not locked\"}`;
-    group.children[1].setAttribute(\"width\", this.width(block.from, block.to) + 8);
-    const names = [[block.key, ...slots].join(\" \\u2190 \"), block.key, \"\"];
-    group.children[2].textContent = names.find((name) => name.length * LETTER <= room);
-    used.add(block.key);
-  }
-
-  // Where a block lay before, and an arrow from there.
-  moved(was, now) {
-    const [old, to] = [(this.x(was.from) + this.x(was.to)) / 2, (this.x(now.from) + this.x(now.to)) / 2];
-    const y = TOP - 3;
-    this.above.append(
-      draw(\"rect\", { class: \"ghost\", x: this.x(was.from) - 4, y: TOP, width: this.width(was.from, was.to) + 8, height: HIGH, rx: 4 }),
-      draw(\"path\", { class: \"path\", d: `M${old} ${y}C${old} ${y - 34} ${to} ${y - 34} ${to} ${y - 4}` }),
-      draw(\"path\", { class: \"tip\", d: `M${to - 5} ${y - 8}h10l-5 8z` }),
-    );
-  }
-
-  // An arrow from a pointer's name to the byte that it leads to.
-  pointer(number, target) {
-    const kind = target.stale ? \"stale\" : \"good\";
-    const x = Math.max(EDGE, Math.min(WIDTH - EDGE, this.x(target.at)));
-    const [y, low] = [TOP + HIGH, TOP + HIGH + 28];
-    const from = Math.max(20, Math.min(WIDTH - 30, x + (number - 1.5) * 26));
-    this.above.append(
-      draw(\"path\", { class: \"arrow \" + kind, d: `M${from} ${low}L${x} ${y - 2}m-4 8l4 -8l5 7` }),
-      draw(\"text\", { class: \"label \" + kind, x: from - 8, y: low + 13 }, \"p\" + number),
-    );
-  }
-
-  show(place, chosen) {
-    const used = new Set();
-    const blocks = this.run.blocks_at(place).filter((b) => b.placed);
-    this.above.replaceChildren();
-    for (const block of blocks) {
-      for (const c of block.chunks) this.put_chunk(block, c, used);
-      const next = blocks.map((other) => other.from).filter((from) => from > block.from);
-      const room = next.length ? this.x(Math.min(...next)) - this.x(block.from) - 4 : Infinity;
-      this.put_frame(block, chosen, this.run.slots_of(block, place), room, used);
-      const was = place ? this.run.block(block.key, place - 1) : null;
-      if (was?.placed && was.locks && (was.from !== block.from)) this.moved(was, block);
-    }
-    for (const [key, piece] of this.pieces) piece.style.display = used.has(key) ? \"\" : \"none\";
-    this.run.targets[place].forEach((target, n) => target && this.pointer(n, target));
-    const said = blocks.map((b) => `${b.key} at ${b.from} to ${b.to}`).join(\", \");
-    this.svg.setAttribute(\"aria-label\", \"The region: \" + (said || \"no chunk yet\"));
   }
 }
 
