@@ -28,7 +28,7 @@ class RefusedPlay extends Play {
     this.input = node("input", { type: "text", id: `call-${name}`, "aria-label": "Words and lent blocks", value: typed_of(this.given), autocomplete: "off", spellcheck: "false", size: 24 });
     this.wrong = node("span", { class: "wrong", role: "alert" });
     const form = node("form", { class: "call" }, node("label", { for: this.input.id }, `Words w0 to w7, then @ and the handle of each lent block: `),
-      this.input, " ", node("button", {}, "Play"), " ", this.wrong);
+      this.input, " ", node("button", {}, "Play with these"), " ", this.wrong);
     form.addEventListener("submit", (event) => {
       event.preventDefault();
       this.read();
@@ -40,7 +40,7 @@ class RefusedPlay extends Play {
   made_words() {
     const { slots } = this.program.routines[this.number].entry;
     if (!slots.size) return "Memory is empty at first, and the VM file is new.";
-    return "The block of each slot has three chunks: 16 with letters, 18 with an array of two elements of 4 bytes, and 20 with `ABCDEF`.";
+    return "The block of each slot has three chunks: 16 with letters, 18 with an array of two elements of 4 bytes, and 20 with the letters ABCDEF.";
   }
 
   read() {

@@ -109,7 +109,7 @@ main { display: grid; grid-template-columns: minmax(0, 9fr) minmax(0, 10fr); gap
 #key { display: flex; flex-wrap: wrap; gap: 0 14px; margin-top: 4px; color: var(--soft); font-size: 12px; }
 #key span::before { content: \"\"; display: inline-block; width: 16px; height: 10px; margin-right: 6px; vertical-align: middle; border: 2px solid var(--blue); border-radius: 3px; }
 #key .free-key::before { border: 1.2px dashed var(--blue); }
-#key .file-key::before { height: 12px; border: 4px double var(--vm); }
+#key .file-key::before { height: 13px; border: 4px double var(--vm); }
 #key .chunk-key::before { content: \"16\"; border: 1px solid hsl(180 50% var(--chunk-line)); background: hsl(180 65% var(--chunk)); width: 22px; height: 14px; font-size: 10px; line-height: 12px; text-align: center; border-radius: 2px; }
 #key .ghost-key::before { border: 2px dotted var(--warm); }
 #key .good-key::before, #key .stale-key::before { height: 0; border-width: 2px 0 0; border-color: var(--good); border-radius: 0; }

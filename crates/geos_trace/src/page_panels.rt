@@ -154,11 +154,11 @@ function slot_cell(run, slot, place) {
   return register(\"s\" + slot, \"wide held\" + (block.vm ? \" vm\" : \"\"), block.key, said);
 }
 
-// Where the bytes are now to which a stale pointer was set.
+// Where the bytes are now to which a stale pointer was set, if their block is locked.
 function where_now(run, target, place) {
-  if (!run.block(target.key, place)?.locks) return \"its block is not locked now\";
+  if (!run.block(target.key, place)?.locks) return [];
   const now = run.now_at(target, place);
-  return now === null ? \"the chunk is gone\" : now === target.at ? \"the bytes are still there\" : `the bytes are now at ${now}`;
+  return [now === null ? \"the chunk is gone\" : now === target.at ? \"the bytes are still there\" : `the bytes are now at ${now}`];
 }
 
 function pointer_cell(run, pointer, place) {
@@ -168,9 +168,9 @@ function pointer_cell(run, pointer, place) {
   const what = (target.element ? target.element + \" of \" : \"\") + `chunk ${target.chunk} of ${target.key}`;
   if (!target.stale) return register(name, \"wide good\", what, `${target.len} bytes at ${target.at}`);
   const { number } = run.steps[target.stale - 1];
-  const where = where_now(run, target, place);
-  const cell = register(name, \"wide stale\", node(\"s\", {}, what), `stale since ${run.place_word} ${number}: ${run.why(target)}; ${where}`);
-  cell.setAttribute(\"aria-label\", `${name} is stale: ${what}, ${where}`);
+  const said = [run.why(target), ...where_now(run, target, place)].join(\"; \");
+  const cell = register(name, \"wide stale\", node(\"s\", {}, what), `stale since ${run.place_word} ${number}: ${said}`);
+  cell.setAttribute(\"aria-label\", `${name} is stale: ${what}, ${said}`);
   return cell;
 }
 
