@@ -34,8 +34,8 @@ function byte_rows(bytes, kind_of) {
   return rows;
 }
 
-// Hues of chunks, in turn by their handles. None is the blue of blocks or the violet of blocks of the file.
-const HUES = [180, 40, 330, 95, 15, 150];
+// Hues of chunks, in turn by their handles. None is the violet of blocks of the file, or the yellow of changed bytes.
+const HUES = [180, 330, 95, 205, 305, 130];
 const hue_of = (chunk) => HUES[(chunk - 16) / 2 % HUES.length];
 const fill_of = (chunk) => `hsl(${hue_of(chunk)} 65% var(--chunk))`;
 const line_of = (chunk) => `hsl(${hue_of(chunk)} 50% var(--chunk-line))`;

@@ -200,7 +200,7 @@ class Play {
   }
 
   key_of_chunks(heap) {
-    const chunks = heap.chunks().map(({ chunk, at, len }) => node("span", { class: hue_class(chunk) }, `chunk ${chunk}: ${count_bytes(len)}${len ? ` at ${at}` : ""}`));
+    const chunks = heap.chunks().map(({ chunk, at, len }) => node("span", { class: hue_class(chunk) }, `chunk ${chunk}: ${count_bytes(len)}${len ? ` at ${at} of the block` : ""}`));
     return node("p", { class: "chunks" }, ...chunks.flatMap((one) => [one, " "]));
   }
 

@@ -86,11 +86,11 @@ footer { margin-top: 20px; font-size: 12.5px; }
 .chunks { font: 12px/1.7 var(--mono); }
 .chunks span { padding: 0 6px; border-radius: 6px; }
 .hue0 { background: hsl(180 65% var(--chunk)); }
-.hue1 { background: hsl(40 65% var(--chunk)); }
-.hue2 { background: hsl(330 65% var(--chunk)); }
-.hue3 { background: hsl(95 65% var(--chunk)); }
-.hue4 { background: hsl(15 65% var(--chunk)); }
-.hue5 { background: hsl(150 65% var(--chunk)); }
+.hue1 { background: hsl(330 65% var(--chunk)); }
+.hue2 { background: hsl(95 65% var(--chunk)); }
+.hue3 { background: hsl(205 65% var(--chunk)); }
+.hue4 { background: hsl(305 65% var(--chunk)); }
+.hue5 { background: hsl(130 65% var(--chunk)); }
 .bytes .led { border-bottom-color: var(--bad); color: var(--bad); font-weight: 700; }
 .bytes .meant { border-bottom: 2px dotted var(--good); }
 .bytes .good { border-bottom-color: var(--good); }
@@ -171,7 +171,7 @@ a:hover .row-back { fill: var(--wash); }
   .lines .steps { grid-column: 3; grid-row: 1; padding-right: 8px; }
   .lines .finding { margin-left: 10px; margin-right: 8px; }
   .why { margin-left: 34px; }
-  #findings a { grid-template-columns: auto auto; justify-content: start; }
+  #findings a { grid-template-columns: 70px 1fr; }
   #findings .said { grid-column: 1 / -1; }
 }
 @media print {

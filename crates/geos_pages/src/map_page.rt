@@ -83,7 +83,7 @@ footer { margin-top: 20px; font-size: 12.5px; }
 .block .inside { padding: 0 14px 12px; overflow-x: auto; }
 .tag.map { background: var(--good-wash); color: var(--good); }
 @media (max-width: 900px) { .sides { display: block; } }
-@media (max-width: 480px) { .areas { grid-template-columns: 1fr; } .block > summary { padding: 8px 10px; } .block .inside { padding: 0 10px 10px; } }
+@media (max-width: 480px) { .areas { grid-template-columns: 1fr; } .block > summary { padding: 8px 10px; } .block > summary > span:not(.size) { grid-column: 1 / -1; grid-row: 2; } .block .inside { padding: 0 10px 10px; } }
 @media print { .sides { display: block; } .block { break-inside: avoid; } }
 </style>
 </head>
@@ -169,8 +169,8 @@ function byte_rows(bytes, kind_of) {
   return rows;
 }
 
-// Hues of chunks, in turn by their handles. None is the blue of blocks or the violet of blocks of the file.
-const HUES = [180, 40, 330, 95, 15, 150];
+// Hues of chunks, in turn by their handles. None is the violet of blocks of the file, or the yellow of changed bytes.
+const HUES = [180, 330, 95, 205, 305, 130];
 const hue_of = (chunk) => HUES[(chunk - 16) / 2 % HUES.length];
 const fill_of = (chunk) => `hsl(${hue_of(chunk)} 65% var(--chunk))`;
 const line_of = (chunk) => `hsl(${hue_of(chunk)} 50% var(--chunk-line))`;
