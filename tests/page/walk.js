@@ -42,6 +42,14 @@ function places_of(name) {
   return new Set(rows.map((row) => row[6]));
 }
 
+// A stale pointer is struck out, and the page says that its chunk is freed if a locked block has it no more.
+function look_at_stale(cell) {
+  const [, chunk, name] = /chunk (\d+) of ((?:file )?block \d+)/.exec(cell.querySelector("s")?.textContent ?? "") ?? [];
+  const [, , , locks, , chunks] = run.blocks.filter(([n, owner, handle]) => n <= player.place + run.skipped && (owner ? "file block " : "block ") + handle === name).pop() ?? [];
+  const is_freed = locks > 0 && !chunks.some(([handle]) => handle === +chunk);
+  if (!chunk || is_freed !== cell.textContent.includes("freed its chunk")) differs.push(`stale: ${cell.textContent}`);
+}
+
 // Each step in the list at the top is one after which the page says the same, and blocks were at both places.
 function look_at_moments() {
   for (const item of document.querySelectorAll("#moments li")) {
@@ -55,7 +63,7 @@ function look_at_moments() {
       if (!places_of(name).has(+from) || !places_of(name).has(+to)) differs.push(item.textContent);
     }
     const stale = said.flatMap((part) => /^(p\d(?:, p\d)*) (?:is|are) stale/.exec(part)?.[1].split(", ") ?? []);
-    for (const name of stale) if (!document.querySelector(`[data-register="${name}"] s`)) differs.push(`${name} is not struck out`);
+    for (const name of stale) look_at_stale(document.querySelector(`[data-register="${name}"]`));
   }
 }
 

@@ -22,6 +22,8 @@ walk 1200 "$top/examples/call.asm" main
 walk 1200 "$top/examples/add.asm" add 2 3
 walk 1200 "$top/examples/triangles.asm" triangles
 walk 1200 "$top/examples/records.asm" start
+walk 1200 "$here/frees.asm" main
+walk 360 "$here/frees.asm" main
 walk 1200 "$here/long.asm" main
 walk 1200 "$here/long.asm" main --steps 5000..10003
 printf '; </script><b> \001\033\nroutine main public budget 1\n        RET\n' >"$folder/$(printf 'a\033<b>.asm')"
