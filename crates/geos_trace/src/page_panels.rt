@@ -1,7 +1,7 @@
 //! The page around a run. Made by tools/page.py from page/.
 
 /// The rest of the page.
-pub(crate) const PANELS: &str = "// The picture of the region: blocks as frames, the chunks in them, and pointers.
+pub(crate) const PANELS: &str = "// The region: blocks as frames, with chunks and pointers.
 
 // As wide as it is shown, so that letters keep their size.
 const WIDTH = window.innerWidth < 900 ? Math.max(320, window.innerWidth - 30) : Math.min(1000, window.innerWidth / 2);
