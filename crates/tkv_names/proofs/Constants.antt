@@ -7,7 +7,7 @@ use Rattle.geos_opcodes.specs.declared.opcode.Opcode.{Opcode}
 use Rattle.tkv_syntax.specs.declared.item.Item.{Item}
 use Rattle.tkv_syntax.specs.declared.item.ItemKind.{ItemKind}
 use Rattle.tkv_syntax.specs.declared.item.ItemKind.TheVariants as kind
-use Rattle.tkv_names.specs.Named.{Env, joined, Joins, DoesItem, Says}
+use Rattle.tkv_names.specs.Named.{Env, joined, Next, Joins, DoesItem, Says}
 use Rattle.tkv_names.specs.Seen.{Immediate, Commutes, IsFolded}
 use Rattle.tkv_names.proofs.Steps.{Gives, gives_same, gives_muli, gives_and, gives_shr}
 
@@ -30,7 +30,7 @@ turned o (inr is) x y = subst (λ (p : ItemKind). joined p x y ≡ joined p y x)
 
 module _ (text : List ℕ) (items : List Item) where
   pub immediate_does : (o : ItemKind) (n : ℕ) (opcode : Opcode) (imm : ℕ) → Immediate o n opcode imm
-      → (p : ℕ) (item : Item) (env : Env) (vs more : List ℕ) → Joins o (Says text (drop p items)) env vs more
+      → (p : ℕ) (item : Item) (env : Env) (vs more : List ℕ) → Joins o (Says text (drop p items) Next) env vs more
       → DoesItem text item o (Says text (drop p items)) env vs more
   immediate_does kind.Mul n opcode imm e p item env vs more h = h
   immediate_does kind.Mask n opcode imm e p item env vs more h = h
@@ -41,7 +41,7 @@ module _ (text : List ℕ) (items : List Item) where
   immediate_does _ n opcode imm e p item env vs more h = absurd e
 
   pub folded_does : (o : ItemKind) (x y word : ℕ) → IsFolded o x y word
-      → (p : ℕ) (item : Item) (env : Env) (vs more : List ℕ) → Joins o (Says text (drop p items)) env vs more
+      → (p : ℕ) (item : Item) (env : Env) (vs more : List ℕ) → Joins o (Says text (drop p items) Next) env vs more
       → DoesItem text item o (Says text (drop p items)) env vs more
   folded_does kind.Add x y word e p item env vs more h = h
   folded_does kind.Sub x y word e p item env vs more h = h

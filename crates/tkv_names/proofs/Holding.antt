@@ -3,8 +3,8 @@ use Rattle.std.proofs.Common.{◌≡◌, ◌<◌, ℕ, zero, suc, ◌+◌, Bool,
 use Rattle.std.specs.Prelude.{◌==◌, if◌then◌else◌, bytes_eq, slice_get, slice_index, slice_set}
 use Rattle.std.proofs.lemmas.Bool.{and_parts, and_from, cases_Bool, eqb-false}
 use Rattle.tkv_syntax.specs.declared.item.Item.{Item}
-use Rattle.tkv_names.specs.Named.{name_at, with_name, parameters}
-use Rattle.tkv_names.specs.Seen.{Agrees, HasName, is_name, Clears, Cleared, Renames}
+use Rattle.tkv_names.specs.Named.{Env, name_at, with_name, parameters}
+use Rattle.tkv_names.specs.Seen.{Agrees, HasName, is_name, Clears, Cleared, Renames, KeepsOne, KeepsBelow}
 use Rattle.tkv_names.proofs.Lists.{taken_out}
 
 same_bytes : (xs ys : List ℕ) → bytes_eq xs ys ≡ true → xs ≡ ys
@@ -92,3 +92,41 @@ one_more text items first k old new item there renames before ws = subst (λ (o 
       | None ↦ parameters text items first ws k
       | Some one ↦ with_name (parameters text items first ws k) (name_at text one.at) (slice_index ws k)
     ]) ws) (sym there) (renames (parameters text items first ws k) ws (before ws))
+
+-- What registers have in two cases
+
+pub keeps_all : (text : List ℕ) (held other : List (Option ℕ)) (k : ℕ) → ((a : ℕ) → slice_get held k ≡ Some (Some a)
+    → is_name text (slice_get other k) a ≡ true) → KeepsOne text held other k held
+keeps_all text held other k is r a e = (e, λ same. subst (λ (q : ℕ). is_name text (slice_get other q) a ≡ true) (sym same)
+    (is a (subst (λ (q : ℕ). slice_get held q ≡ Some (Some a)) same e)))
+
+pub keeps_none : (text : List ℕ) (held other : List (Option ℕ)) (k : ℕ) → KeepsOne text held other k (slice_set held k None)
+keeps_none text held other k r a e = let old = taken_out held k r a e in (old.0, λ same. absurd (old.1 same))
+
+pub keeps_first : (text : List ℕ) (held other : List (Option ℕ)) → KeepsBelow text held other 0 held
+keeps_first text held other r a e = (e, λ lt. absurd (omega (arith, lt)))
+
+pub keeps_next : (text : List ℕ) (held other new next : List (Option ℕ)) (k : ℕ) → KeepsBelow text held other k new → KeepsOne text new other k next
+    → KeepsBelow text held other (k + 1) next
+keeps_next text held other new next k before one r a e = (
+  (before r a (one r a e).0).0,
+  λ lt. by lt (cases_Bool (r == k)),
+)
+  where
+    by : r < k + 1 → (((r == k) ≡ true) ⊎ ((r == k) ≡ false)) → is_name text (slice_get other r) a ≡ true
+    by lt (inl same) = (one r a e).1 (eqb-true r k same)
+    by lt (inr differs) = (before r a (one r a e).0).1 (let ne = eqb-false r k differs in below r k lt ne)
+      where
+        below : (i j : ℕ) → i < j + 1 → (i ≡ j → ⊥) → i < j
+        below i j l ne = omega (arith, l, ne)
+
+pub agrees_one : (text : List ℕ) (held other new : List (Option ℕ)) (env : Env) (ws : List ℕ) → KeepsBelow text held other 8 new → Agrees text held env ws
+    → Agrees text new env ws
+agrees_one text held other new env ws keeps agrees r a lt e = agrees r a lt (keeps r a e).0
+
+pub agrees_other : (text : List ℕ) (held other new : List (Option ℕ)) (env : Env) (ws : List ℕ) → KeepsBelow text held other 8 new → Agrees text other env ws
+    → Agrees text new env ws
+agrees_other text held other new env ws keeps agrees r a lt e = by (named_by text (slice_get other r) a ((keeps r a e).1 lt))
+  where
+    by : (b : ℕ) × (slice_get other r ≡ Some (Some b)) × (name_at text b ≡ name_at text a) → slice_index ws r ≡ env (name_at text a)
+    by (b, there, same) = agrees r b lt there ∙ ap env same

@@ -6,5 +6,8 @@ mod Bodies
 mod Holding
 mod Constants
 mod Cases
+mod Passing
+mod Tests
+mod Joint
 mod Examples
 mod Noted

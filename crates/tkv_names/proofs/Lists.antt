@@ -1,6 +1,6 @@
 -- Lists after a write, and from an index on.
-use Rattle.std.proofs.Common.{◌≡◌, ◌<◌, ℕ, zero, suc, Option, Some, None, List, [], ◌∷◌, length, refl, ap, arith}
-use Rattle.std.specs.Prelude.{drop, slice_get, slice_index, slice_set}
+use Rattle.std.proofs.Common.{◌≡◌, ◌<◌, ◌≤◌, ℕ, zero, suc, Option, Some, None, List, [], ◌∷◌, length, refl, ap, arith}
+use Rattle.std.specs.Prelude.{drop, take, slice_get, slice_index, slice_set}
 
 pub dropped : {A : Type 0} (xs : List A) (k : ℕ) (x : A) → slice_get xs k ≡ Some x → drop k xs ≡ x ∷ drop (suc k) xs
 dropped [] k x e = absurd cc
@@ -31,3 +31,34 @@ taken_out (h ∷ hs) zero zero a e = absurd cc
 taken_out (h ∷ hs) zero (suc j) a e = (e, λ z. cc)
 taken_out (h ∷ hs) (suc k) zero a e = (e, λ z. cc)
 taken_out (h ∷ hs) (suc k) (suc j) a e = let more = taken_out hs k j a e in (more.0, λ z. more.1 (omega (arith, z)))
+
+pub none_left : {A : Type 0} (xs : List A) (k : ℕ) → length xs ≤ k → drop k xs ≡ []
+none_left [] zero le = refl
+none_left [] (suc k) le = refl
+none_left (x ∷ xs) zero le = absurd (omega (arith, le))
+none_left (x ∷ xs) (suc k) le = none_left xs k (omega (arith, le))
+
+pub taken : {A : Type 0} (xs : List A) (n k : ℕ) (x : A) → slice_get xs k ≡ Some x → k < n → slice_get (take n xs) k ≡ Some x
+taken [] n k x e lt = absurd cc
+taken (y ∷ ys) zero k x e lt = absurd (omega (arith, lt))
+taken (y ∷ ys) (suc n) zero x e lt = e
+taken (y ∷ ys) (suc n) (suc k) x e lt = taken ys n k x e (omega (arith, lt))
+
+pub taken_all : {A : Type 0} (xs : List A) (n : ℕ) → drop n (take n xs) ≡ []
+taken_all [] zero = refl
+taken_all [] (suc n) = refl
+taken_all (x ∷ xs) zero = refl
+taken_all (x ∷ xs) (suc n) = taken_all xs n
+
+-- what is read from a list after one is put in
+pub put_same : {A : Type 0} (xs : List A) (k : ℕ) (old new : A) → slice_get xs k ≡ Some old → slice_get (slice_set xs k new) k ≡ Some new
+put_same [] k old new e = absurd cc
+put_same (x ∷ xs) zero old new e = refl
+put_same (x ∷ xs) (suc k) old new e = put_same xs k old new e
+
+pub put_other : {A : Type 0} (xs : List A) (k j : ℕ) (new : A) → (j ≡ k → ⊥) → slice_get (slice_set xs k new) j ≡ slice_get xs j
+put_other [] k j new ne = refl
+put_other (x ∷ xs) zero zero new ne = absurd (ne refl)
+put_other (x ∷ xs) zero (suc j) new ne = refl
+put_other (x ∷ xs) (suc k) zero new ne = refl
+put_other (x ∷ xs) (suc k) (suc j) new ne = put_other xs k j new (λ e. ne (ap suc e))

@@ -11,16 +11,15 @@ use Rattle.geos_opcodes.specs.declared.opcode.Opcode.TheVariants as op
 use Rattle.geos_opcodes.specs.Facts.{uses_of}
 use Rattle.geos_semantics.specs.State.{State, word, with_word, goto, along}
 use Rattle.geos_semantics.specs.Faults.{is_fault}
-use Rattle.geos_semantics.specs.Model.{Outcome, Fault, Next, exec, begun, answer, most_output}
+use Rattle.geos_semantics.specs.Model.{Outcome, Fault, Next, exec, begun, answer, branch, most_output}
 use Rattle.tkv_places.specs.declared.placed.Placed.{Placed}
 use Rattle.tkv_places.specs.declared.placed.PlacedKind.{PlacedKind}
 use Rattle.tkv_places.specs.declared.placed.PlacedKind.TheVariants as kind
 use Rattle.tkv_meaning.specs.Code.{aimed}
-use Rattle.tkv_meaning.specs.Meaning.{Scope, drifted, Drifts, no_code, pc_after, Acts}
-use Rattle.tkv_checks.specs.Items.{no_block}
+use Rattle.tkv_meaning.specs.Meaning.{Scope, Way, On, drifted, Drifts, no_code, pc_after, Acts}
 use Rattle.tkv_names.specs.Straight.{Any, Goes, Straight}
-use Rattle.tkv_names.specs.Seen.{IsDone}
-use Rattle.tkv_names.proofs.Lists.{dropped}
+use Rattle.tkv_names.specs.Seen.{IsDone, IsOver, IsBranch, leaves_if}
+use Rattle.tkv_names.proofs.Lists.{dropped, none_left}
 
 -- Steps of control
 
@@ -157,23 +156,83 @@ puts_off i is x z acts = sym (ap (λ (y : Scope). y.output) acts.to_y)
     ∙ (out_off (refusal i is true x z acts) i (s i is true x z acts) (done i is true x z acts) acts.after (ran i is true x z acts)
     ∙ output i is true x z acts)
 
+-- Tests
+
+-- a branch goes to its target if its test holds
+branch_is : (t b : Bool) (i : Instr) (s after : State) (pc : ℕ)
+    → ((target : ℕ) → branch t (aimed i target) s ≡ Next (goto (pc_after b pc target) after))
+    → (t ≡ b) × (after.words ≡ s.words) × (after.output ≡ s.output)
+branch_is true true i s after pc e = (
+  refl,
+  sym (ap (λ (u : State). u.words) (same_state (goto 0 s) (goto 0 after) (e 0))),
+  sym (ap (λ (u : State). u.output) (same_state (goto 0 s) (goto 0 after) (e 0))),
+)
+branch_is false false i s after pc e = (
+  refl,
+  sym (ap (λ (u : State). u.words) (same_state (along s) (goto pc after) (e 0))),
+  sym (ap (λ (u : State). u.output) (same_state (along s) (goto pc after) (e 0))),
+)
+branch_is true false i s after pc e = absurd (apart (ap (λ (u : State). u.pc) (same_state (goto (suc pc) s) (goto pc after) (e (suc pc)))))
+  where
+    apart : suc pc ≡ pc → ⊥
+    apart h = omega (arith, h)
+branch_is false true i s after pc e = absurd (apart (ap (λ (u : State). u.pc) (same_state (along s) (goto (s.pc + 2) after) (e (s.pc + 2)))))
+  where
+    apart : s.pc + 1 ≡ s.pc + 2 → ⊥
+    apart h = omega (arith, h)
+
+branch_runs : (o : Opcode) → IsBranch o → (choice : Choice) (i : Instr) (target : ℕ) (s : State)
+    → exec no_code choice (aimed i target) o s ≡ branch (leaves_if o i s.words) (aimed i target) s
+branch_runs o (inl is) choice i target s = subst (λ (p : Opcode). exec no_code choice (aimed i target) p s ≡ branch (leaves_if p i s.words) (aimed i target) s)
+    (sym is) refl
+branch_runs o (inr (inl is)) choice i target s = subst (λ (p : Opcode). exec no_code choice (aimed i target) p s ≡ branch (leaves_if p i s.words) (aimed i target) s)
+    (sym is) refl
+branch_runs o (inr (inr is)) choice i target s = subst (λ (p : Opcode). exec no_code choice (aimed i target) p s ≡ branch (leaves_if p i s.words) (aimed i target) s)
+    (sym is) refl
+
+pub branch_does : (i : Instr) → IsBranch i.opcode → (leaves : Bool) (w x z : Scope) → Drifts Any w x → Acts Any i x leaves z
+    → (leaves_if i.opcode i w.words ≡ leaves) × (z.words ≡ w.words) × (z.output ≡ w.output)
+branch_does i is leaves w x z drifts acts = (
+  sym (ap (leaves_if i.opcode i) words) ∙ now.0,
+  sym (ap (λ (y : Scope). y.words) acts.to_y) ∙ (now.1 ∙ words),
+  sym (ap (λ (y : Scope). y.output) acts.to_y) ∙ (now.2 ∙ output),
+)
+  where
+    s : State
+    s = begun acts.choice acts.before
+
+    words : acts.before.words ≡ w.words
+    words = ap (λ (y : Scope). y.words) acts.from_x ∙ drift_words w x drifts
+
+    output : acts.before.output ≡ w.output
+    output = ap (λ (y : Scope). y.output) acts.from_x ∙ drift_output w x drifts
+
+    ran : (target : ℕ) → branch (leaves_if i.opcode i s.words) (aimed i target) s ≡ Next (goto (pc_after leaves (acts.before.pc + 1) target) acts.after)
+    ran target = sym (branch_runs i.opcode is acts.choice i target s)
+        ∙ next_is (is_fault (aimed i target) (uses_of i.opcode) s) (exec no_code acts.choice (aimed i target) i.opcode s)
+        (goto (pc_after leaves (acts.before.pc + 1) target) acts.after) (acts.step target)
+
+    now : (leaves_if i.opcode i s.words ≡ leaves) × (acts.after.words ≡ s.words) × (acts.after.output ≡ s.output)
+    now = branch_is (leaves_if i.opcode i s.words) leaves i s acts.after (acts.before.pc + 1) ran
+
 -- Items
 
 -- what items do from an index on begins with what the item at the index does
-pub at_item : (placed : List Placed) (k : ℕ) (item : Placed) (o : PlacedKind) (x y : Scope) → slice_get placed k ≡ Some item → item.kind ≡ o
-    → Straight (drop k placed) x y → Goes item o (Straight (drop (suc k) placed)) x y
-at_item placed k item o x y e is d = subst (λ (p : PlacedKind). Goes item p (Straight (drop (suc k) placed)) x y) is
-    (subst (λ (ps : List Placed). Straight ps x y) (dropped placed k item e) d)
+pub at_item : (placed : List Placed) (k : ℕ) (item : Placed) (o : PlacedKind) (d : ℕ) (way : Way) (x y : Scope) → slice_get placed k ≡ Some item
+    → item.kind ≡ o → Straight (drop k placed) d way x y → Goes item o (Straight (drop (suc k) placed)) d way x y
+at_item placed k item o d way x y e is does = subst (λ (p : PlacedKind). Goes item p (Straight (drop (suc k) placed)) d way x y) is
+    (subst (λ (ps : List Placed). Straight ps d way x y) (dropped placed k item e) does)
 
 -- an instruction after which control continues
-pub on_done : (placed : List Placed) (k : ℕ) (i : Instr) (x y : Scope) → IsDone placed k i → Straight (drop k placed) x y
-    → (m z : Scope) × Drifts Any x m × Acts Any i m false z × Straight (drop (suc k) placed) z y
-on_done placed k i x y (item, e, (is, to, instr)) d = by (at_item placed k item kind.Do x y e is d)
+pub on_done : (placed : List Placed) (k d : ℕ) (i : Instr) (x y : Scope) → IsDone placed k d i → Straight (drop k placed) d On x y
+    → (m z : Scope) × Drifts Any x m × Acts Any i m false z × Straight (drop (suc k) placed) d On z y
+on_done placed k d i x y ((item, e, (is, to, instr)), least) does = by (at_item placed k item kind.Do d On x y e is does)
   where
-    by : Goes item kind.Do (Straight (drop (suc k) placed)) x y
-        → (m z : Scope) × Drifts Any x m × Acts Any i m false z × Straight (drop (suc k) placed) z y
+    by : Goes item kind.Do (Straight (drop (suc k) placed)) d On x y
+        → (m z : Scope) × Drifts Any x m × Acts Any i m false z × Straight (drop (suc k) placed) d On z y
     by (m, z, drifts, inl (acts, rest)) = (m, z, drifts, subst (λ (j : Instr). Acts Any j m false z) instr acts, rest)
-    by (m, z, drifts, inr (none, acts, rest)) = absurd (apart (sym to ∙ none))
-      where
-        apart : no_block ≡ 0 → ⊥
-        apart h = omega (arith, h)
+    by (m, z, drifts, inr (below, acts, rest)) = absurd (omega (arith, below, to, least))
+
+-- if no item is left, nothing is done
+pub over_drifts : (placed : List Placed) (k d : ℕ) (x y : Scope) → IsOver placed k → Straight (drop k placed) d On x y → Drifts Any x y
+over_drifts placed k d x y over does = subst (λ (ps : List Placed). Straight ps d On x y) (none_left placed k over) does

@@ -1,5 +1,5 @@
 -- What the items of a source mean: names stand for words, and each value is where its operands were.
-use Rattle.std.specs.Prelude.{◌≡◌, ◌⊎◌, ℕ, zero, suc, ◌+◌, ◌-◌, ◌*◌, ◌/◌, ◌%◌, ◌^◌, Bool, ◌||◌, ◌&&◌, ◌==◌, nat_le, if◌then◌else◌, bit_and, bytes_eq, Some, None, List, [], ◌∷◌, drop, slice_get, slice_index}
+use Rattle.std.specs.Prelude.{◌≡◌, ◌⊎◌, ℕ, zero, suc, ◌+◌, ◌-◌, ◌*◌, ◌/◌, ◌%◌, ◌^◌, ◌<◌, Bool, ◌||◌, ◌&&◌, ◌==◌, not, nat_le, nat_lt, if◌then◌else◌, bit_and, bytes_eq, Some, None, List, [], ◌∷◌, drop, slice_get, slice_index}
 use Rattle.tkv_syntax.specs.declared.item.Item.{Item}
 use Rattle.tkv_syntax.specs.declared.item.ItemKind.{ItemKind}
 use Rattle.tkv_syntax.specs.declared.item.ItemKind.TheVariants as kind
@@ -41,6 +41,33 @@ joined kind.Left x y = (x * 2 ^ y) % 65536
 joined kind.Right x y = x / 2 ^ y
 joined _ x y = 0
 
+-- whether a comparison of two words holds: `==`, `!=`, `<`, `>=`, `>` or `<=`
+abbrev pub holds : ℕ → ℕ → ℕ → Bool
+holds test x y =
+    if test == 0 then x == y else
+    if test == 1 then not (x == y) else
+    if test == 2 then nat_lt x y else
+    if test == 3 then not (nat_lt x y) else
+    if test == 4 then nat_lt y x else not (nat_lt y x)
+
+-- where control goes on: with the next item, or past the part that contains it, if so many parts that begin within it have not ended
+pub data Turn : Type 0 where
+  Next : Turn
+  Past : ℕ → Turn
+
+-- where control goes on after an item that is passed over. The parts of a condition end with `AltEnd` and `CondEnd`, and the statements of its
+-- branches with `Else` and `IfEnd`.
+abbrev pub passed : ItemKind → ℕ → Turn
+passed kind.If n = Past (suc n)
+passed kind.Alt n = Past (suc n)
+passed kind.AltEnd zero = Next
+passed kind.AltEnd (suc n) = Past n
+passed kind.CondEnd zero = Next
+passed kind.Else zero = Next
+passed kind.IfEnd zero = Next
+passed kind.IfEnd (suc n) = Past n
+passed _ n = Past n
+
 -- what the items from one on may output, if names stand for words, and these values are not used yet, the last one first
 abbrev pub Saying : Type 1
 Saying = Env → List ℕ → List ℕ → Type 0
@@ -58,31 +85,47 @@ abbrev pub Puts : Saying → Saying
 Puts rest env values output = (x : ℕ) × (before : List ℕ) × (values ≡ x ∷ before)
     × ((output ≡ []) ⊎ ((more : List ℕ) × (output ≡ x ∷ more) × rest env before more))
 
+-- a test takes two values. If the comparison does not hold, control goes past the alternative that contains it.
+abbrev pub Tests : ℕ → (Turn → Saying) → Saying
+Tests test rest env values output = (x y : ℕ) × (before : List ℕ) × (values ≡ y ∷ x ∷ before)
+    × rest (if holds test x y then Next else Past 0) env before output
+
 -- what an item does, before the items that follow it
-abbrev pub DoesItem : List ℕ → Item → ItemKind → Saying → Saying
-DoesItem text item kind.Number rest env values output = rest env (item.a ∷ values) output
-DoesItem text item kind.Named rest env values output = rest env (env (name_at text item.at) ∷ values) output
-DoesItem text item kind.Add rest env values output = Joins kind.Add rest env values output
-DoesItem text item kind.Sub rest env values output = Joins kind.Sub rest env values output
-DoesItem text item kind.Mul rest env values output = Joins kind.Mul rest env values output
-DoesItem text item kind.Div rest env values output = Joins kind.Div rest env values output
-DoesItem text item kind.Rem rest env values output = Joins kind.Rem rest env values output
-DoesItem text item kind.Mask rest env values output = Joins kind.Mask rest env values output
-DoesItem text item kind.Left rest env values output = Joins kind.Left rest env values output
-DoesItem text item kind.Right rest env values output = Joins kind.Right rest env values output
-DoesItem text item kind.Let rest env values output = (item.b ≡ 1) × Sets (name_at text item.at) rest env values output
-DoesItem text item kind.Assign rest env values output = (item.b ≡ 1) × Sets (name_at text item.at) rest env values output
-DoesItem text item kind.Put rest env values output = Puts rest env values output
-DoesItem text item kind.Begin rest env values output = (item.a ≡ 0) × rest env values output
-DoesItem text item kind.End rest env values output = rest env values output
+abbrev pub DoesItem : List ℕ → Item → ItemKind → (Turn → Saying) → Saying
+DoesItem text item kind.Number rest env values output = rest Next env (item.a ∷ values) output
+DoesItem text item kind.Named rest env values output = rest Next env (env (name_at text item.at) ∷ values) output
+DoesItem text item kind.Add rest env values output = Joins kind.Add (rest Next) env values output
+DoesItem text item kind.Sub rest env values output = Joins kind.Sub (rest Next) env values output
+DoesItem text item kind.Mul rest env values output = Joins kind.Mul (rest Next) env values output
+DoesItem text item kind.Div rest env values output = Joins kind.Div (rest Next) env values output
+DoesItem text item kind.Rem rest env values output = Joins kind.Rem (rest Next) env values output
+DoesItem text item kind.Mask rest env values output = Joins kind.Mask (rest Next) env values output
+DoesItem text item kind.Left rest env values output = Joins kind.Left (rest Next) env values output
+DoesItem text item kind.Right rest env values output = Joins kind.Right (rest Next) env values output
+DoesItem text item kind.Let rest env values output = (item.b ≡ 1) × Sets (name_at text item.at) (rest Next) env values output
+DoesItem text item kind.Assign rest env values output = (item.b ≡ 1) × Sets (name_at text item.at) (rest Next) env values output
+DoesItem text item kind.Put rest env values output = Puts (rest Next) env values output
+DoesItem text item kind.Begin rest env values output = (item.a ≡ 0) × rest Next env values output
+DoesItem text item kind.End rest env values output = rest Next env values output
+DoesItem text item kind.If rest env values output = rest Next env values output
+DoesItem text item kind.Alt rest env values output = rest Next env values output
+DoesItem text item kind.Test rest env values output = (item.a < 6) × Tests item.a rest env values output
+-- all tests of an alternative hold: control goes past the condition
+DoesItem text item kind.AltEnd rest env values output = rest (Past 0) env values output
+-- no alternative holds: control goes past the statements for which one does
+DoesItem text item kind.CondEnd rest env values output = rest (Past 0) env values output
+-- those statements are over: control goes past the statements after `else`
+DoesItem text item kind.Else rest env values output = rest (Past 0) env values output
+DoesItem text item kind.IfEnd rest env values output = rest Next env values output
 DoesItem text item kind.Return rest env values output = (item.a ≡ 0) × (output ≡ [])
 DoesItem text item kind.BodyEnd rest env values output = output ≡ []
 DoesItem text item _ rest env values output = ⊥
 
--- what the items, one after another, may output
-abbrev pub Says : List ℕ → List Item → Saying
-Says text [] env values output = ⊥
-Says text (item ∷ items) env values output = DoesItem text item item.kind (Says text items) env values output
+-- what the items may output: those that control reaches, one after another
+abbrev pub Says : List ℕ → List Item → Turn → Saying
+Says text [] turn env values output = ⊥
+Says text (item ∷ items) Next env values output = DoesItem text item item.kind (Says text items) env values output
+Says text (item ∷ items) (Past n) env values output = Says text items (passed item.kind n) env values output
 
 -- the words of the first so many parameters: parameter k is item `first + k`, and stands for the word k that the routine is called with
 abbrev pub parameters : List ℕ → List Item → ℕ → List ℕ → ℕ → Env
@@ -98,4 +141,4 @@ pub record Outputs (text : List ℕ) (items : List Item) (index : ℕ) (words ou
   pub head : Item
   pub there : slice_get items index ≡ Some head
   pub declares : head.kind ≡ kind.Fn
-  pub says : Says text (drop (index + 2 + head.b) items) (parameters text items (index + 1) words head.b) [] output
+  pub says : Says text (drop (index + 2 + head.b) items) Next (parameters text items (index + 1) words head.b) [] output

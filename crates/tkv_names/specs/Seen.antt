@@ -1,22 +1,23 @@
 -- What a check of a routine knows after some items.
-use Rattle.std.specs.Prelude.{◌≡◌, ◌≢◌, ◌⊎◌, ◌<◌, ℕ, suc, ◌+◌, ◌-◌, ◌^◌, Bool, Option, Some, None, List, ◌++◌, length, drop, slice_get, slice_index, slice_set, bytes_eq, false}
+use Rattle.std.specs.Prelude.{◌≡◌, ◌≢◌, ◌⊎◌, ◌<◌, ◌≤◌, ℕ, suc, ◌+◌, ◌-◌, ◌^◌, Bool, not, if◌then◌else◌, nat_lt, ◌==◌, Option, Some, None, List, ◌++◌, length, drop, slice_get, slice_index, slice_set, bytes_eq, true, false}
 use Rattle.tkv_syntax.specs.declared.item.Item.{Item}
 use Rattle.tkv_syntax.specs.declared.item.ItemKind.{ItemKind}
 use Rattle.tkv_syntax.specs.declared.item.ItemKind.TheVariants as kind
 use Rattle.tkv_places.specs.declared.placed.Placed.{Placed}
+use Rattle.tkv_places.specs.declared.placed.PlacedKind.{PlacedKind}
 use Rattle.tkv_places.specs.declared.placed.PlacedKind.TheVariants as placed_kind
 use Rattle.std.specs.Global.{Vec}
 use Rattle.geos_image.specs.declared.instr.Instr.{Instr}
 use Rattle.geos_opcodes.specs.declared.opcode.Opcode.{Opcode}
 use Rattle.geos_opcodes.specs.declared.opcode.Opcode.TheVariants as op
 use Rattle.tkv_meaning.specs.Statements.{Stmt}
-use Rattle.tkv_meaning.specs.Meaning.{Scope}
+use Rattle.tkv_meaning.specs.Meaning.{Scope, On, Out, Drifts}
 use Rattle.tkv_meaning.specs.Written.{RoutineDoes}
 use Rattle.tkv_checks.specs.Items.{SpellsRoutine, ItemAt, no_block}
 use Rattle.tkv_names.specs.declared.seen.Known.{Known}
 use Rattle.tkv_names.specs.declared.seen.Known.TheVariants as known
 use Rattle.tkv_names.specs.declared.seen.Seen.{Seen}
-use Rattle.tkv_names.specs.Named.{Env, name_at, with_name, joined, parameters, Says, Outputs}
+use Rattle.tkv_names.specs.Named.{Env, name_at, with_name, joined, holds, Next, Past, parameters, Says, Outputs}
 use Rattle.tkv_names.specs.Straight.{Straight, Any}
 
 -- a value is what is known of it
@@ -41,8 +42,8 @@ pub record Tied (text : List ℕ) (seen : Seen) (env : Env) (values words : List
 -- what the placed items output from here on, the items of the source may output
 abbrev pub Sound : List ℕ → List Item → List Placed → Seen → Type 0
 Sound text items placed seen = (env : Env) (values : List ℕ) (x y : Scope) → Tied text seen env values x.words
-    → Straight (drop seen.placed placed) x y
-    → (more : List ℕ) × (y.output ≡ x.output ++ more) × Says text (drop seen.item items) env values more
+    → Straight (drop seen.placed placed) seen.level On x y
+    → (more : List ℕ) × (y.output ≡ x.output ++ more) × Says text (drop seen.item items) Next env values more
 
 -- it is enough to look at what is known later
 abbrev pub Leads : List ℕ → List Item → List Placed → Seen → Seen → Type 0
@@ -53,9 +54,9 @@ abbrev pub IsFree : Seen → ℕ → Type 0
 IsFree seen r = (r < 8) × (seen.first ≢ known.Register r) × (seen.second ≢ known.Register r) × (seen.third ≢ known.Register r)
     × (seen.fourth ≢ known.Register r)
 
--- the placed item is an instruction after which control continues
-abbrev pub IsDone : List Placed → ℕ → Instr → Type 0
-IsDone placed k instr = ItemAt placed k (λ item. (item.kind ≡ placed_kind.Do) × (item.to ≡ no_block) × (item.instr ≡ instr))
+-- the placed item is an instruction after which control continues, with so many brackets open
+abbrev pub IsDone : List Placed → ℕ → ℕ → Instr → Type 0
+IsDone placed k d instr = ItemAt placed k (λ item. (item.kind ≡ placed_kind.Do) × (item.to ≡ no_block) × (item.instr ≡ instr)) × (d ≤ no_block)
 
 -- what is known after an item that only adds a value
 abbrev pub pushed : Seen → Known → Seen
@@ -74,14 +75,38 @@ abbrev pub MeansNamed : List ℕ → List Item → ℕ → List Placed → Type 
 MeansNamed text items index placed = (body : Stmt) → SpellsRoutine placed body → (x y : Scope) → length x.words ≡ 8
     → RoutineDoes Any body x y → (output : List ℕ) × (y.output ≡ x.output ++ output) × Outputs text items index x.words output
 
--- the placed item outputs a register
-abbrev pub IsOut : List Placed → ℕ → ℕ → Type 0
-IsOut placed k r = ItemAt placed k (λ item. (item.kind ≡ placed_kind.Do) × (item.instr.opcode ≡ op.Out) × (item.instr.a ≡ r))
+-- from a placed item on control comes to another, with so many brackets open, and does nothing on the way
+abbrev pub Reaches : List Placed → ℕ → ℕ → ℕ → ℕ → Type 0
+Reaches placed k d j e = (x y : Scope) → Straight (drop k placed) d On x y → Straight (drop j placed) e On x y
+
+-- the same, if control leaves to the end of a block
+abbrev pub Escapes : List Placed → ℕ → ℕ → ℕ → ℕ → ℕ → Type 0
+Escapes placed k d l j e = (x y : Scope) → Straight (drop k placed) d (Out l) x y → Straight (drop j placed) e On x y
+
+-- no placed item is left there
+abbrev pub IsOver : List Placed → ℕ → Type 0
+IsOver placed k = length placed ≤ k
+
+-- the placed item is an instruction; if it goes to its target, control comes to another item
+abbrev pub IsFork : List Placed → ℕ → ℕ → Instr → ℕ → ℕ → Type 0
+IsFork placed k d instr j e = ItemAt placed k (λ item. (item.kind ≡ placed_kind.Do) × (item.instr ≡ instr) × Escapes placed (suc k) d item.to j e)
+
+-- on the way to the end of block l control passes over a placed item: so many brackets are open before it, and so many after it
+abbrev pub Opens : ℕ → PlacedKind → ℕ → ℕ → Type 0
+Opens l placed_kind.Do d e = e ≡ d
+Opens l placed_kind.Leave d e = e ≡ d
+Opens l placed_kind.End d e = (d ≡ suc e) × (e ≢ l)
+Opens l _ d e = e ≡ suc d
+
+-- the placed item outputs a register; if that is refused, the routine ends
+abbrev pub IsOut : List Placed → ℕ → ℕ → ℕ → Type 0
+IsOut placed k d r = ItemAt placed k (λ item. (item.kind ≡ placed_kind.Do) × (item.instr.opcode ≡ op.Out) × (item.instr.a ≡ r)
+    × ((j e : ℕ) × Escapes placed (suc k) d item.to j e × IsOver placed j))
 
 -- a placed instruction makes one of the last two values, which are in registers
 pub record OnWords (placed : List Placed) (opcode : Opcode) (seen next : Seen) : Type 0 where
   pub instr : Instr
-  pub done : IsDone placed seen.placed instr
+  pub done : IsDone placed seen.placed seen.level instr
   pub is : instr.opcode ≡ opcode
   pub left : seen.second ≡ known.Register instr.b
   pub right : seen.first ≡ known.Register instr.c
@@ -140,6 +165,16 @@ abbrev pub Clears : List ℕ → List (Option ℕ) → ℕ → ℕ → List (Opt
 Clears text old at k new = (r a : ℕ) → slice_get new r ≡ Some (Some a)
     → (slice_get old r ≡ Some (Some a)) × (r ≡ k → bytes_eq (name_at text a) (name_at text at) ≡ false)
 
+-- the registers are the same, but one of them has the word of a name only if it has the word of the same name in another list
+abbrev pub KeepsOne : List ℕ → List (Option ℕ) → List (Option ℕ) → ℕ → List (Option ℕ) → Type 0
+KeepsOne text old other k new = (r a : ℕ) → slice_get new r ≡ Some (Some a)
+    → (slice_get old r ≡ Some (Some a)) × (r ≡ k → is_name text (slice_get other r) a ≡ true)
+
+-- the same of all registers below one
+abbrev pub KeepsBelow : List ℕ → List (Option ℕ) → List (Option ℕ) → ℕ → List (Option ℕ) → Type 0
+KeepsBelow text old other k new = (r a : ℕ) → slice_get new r ≡ Some (Some a)
+    → (slice_get old r ≡ Some (Some a)) × (r < k → is_name text (slice_get other r) a ≡ true)
+
 -- the registers below one do not have the word of the name, and all others have what they had
 abbrev pub Cleared : List ℕ → List (Option ℕ) → ℕ → ℕ → List (Option ℕ) → Type 0
 Cleared text old at k new = (r a : ℕ) → slice_get new r ≡ Some (Some a)
@@ -156,7 +191,8 @@ pub record Begins (text : List ℕ) (items : List Item) (index : ℕ) (seen : Se
   pub there : slice_get items index ≡ Some head
   pub declares : head.kind ≡ kind.Fn
   pub item : seen.item ≡ index + 2 + head.b
-  pub placed : seen.placed ≡ 1
+  pub placed : seen.placed ≡ 0
+  pub level : seen.level ≡ 0
   pub held : (words : List ℕ) → Agrees text seen.held (parameters text items (index + 1) words head.b) words
   pub first : seen.first ≡ known.Nothing
   pub second : seen.second ≡ known.Nothing
@@ -169,11 +205,53 @@ IsSetting item = ((item.kind ≡ kind.Let) × (item.b ≡ 1)) ⊎ ((item.kind �
 
 -- the item has no effect
 abbrev pub IsPassed : Item → Type 0
-IsPassed item = ((item.kind ≡ kind.Begin) × (item.a ≡ 0)) ⊎ (item.kind ≡ kind.End)
+IsPassed item = ((item.kind ≡ kind.Begin) × (item.a ≡ 0)) ⊎ ((item.kind ≡ kind.End) ⊎ ((item.kind ≡ kind.If) ⊎ ((item.kind ≡ kind.Alt) ⊎ (item.kind ≡ kind.IfEnd))))
 
--- the placed item ends the block, or leaves it
-abbrev pub IsOver : List Placed → ℕ → Type 0
-IsOver placed k = ItemAt placed k (λ item. (item.kind ≡ placed_kind.End) ⊎ (item.kind ≡ placed_kind.Leave))
+-- past the part of the source that contains an item, another item is next
+abbrev pub Passes : List ℕ → List Item → ℕ → ℕ → Type 0
+Passes text items i j = (env : Env) (values more : List ℕ) → Says text (drop j items) Next env values more
+    → Says text (drop i items) (Past 0) env values more
+
+-- the item ends a part, and control goes past the part that contains it
+abbrev pub IsPart : Item → Type 0
+IsPart item = (item.kind ≡ kind.AltEnd) ⊎ ((item.kind ≡ kind.CondEnd) ⊎ (item.kind ≡ kind.Else))
+
+-- whether an instruction goes to its target
+abbrev pub leaves_if : Opcode → Instr → List ℕ → Bool
+leaves_if op.Chk instr words = nat_lt instr.imm (slice_index words instr.a)
+leaves_if op.Beq instr words = slice_index words instr.a == slice_index words instr.b
+leaves_if op.Blt instr words = nat_lt (slice_index words instr.a) (slice_index words instr.b)
+leaves_if _ instr words = false
+
+-- the instruction is one that tests words
+abbrev pub IsBranch : Opcode → Type 0
+IsBranch opcode = (opcode ≡ op.Chk) ⊎ ((opcode ≡ op.Beq) ⊎ (opcode ≡ op.Blt))
+
+-- the first truth, if the second one is to be the same, or its opposite
+abbrev pub agreed : Bool → Bool → Bool
+agreed same truth = if same then truth else not truth
+
+-- the instruction goes to its target if the comparison of the last two values holds, or only if it does not
+pub record Decides (test : ℕ) (seen : Seen) (instr : Instr) (same : Bool) : Type 0 where
+  pub left : List ℕ → ℕ
+  pub right : List ℕ → ℕ
+  pub is_left : (words : List ℕ) (value : Option ℕ) → Holds seen.second words value → value ≡ Some (left words)
+  pub is_right : (words : List ℕ) (value : Option ℕ) → Holds seen.first words value → value ≡ Some (right words)
+  pub branch : IsBranch instr.opcode
+  pub decides : (words : List ℕ) → leaves_if instr.opcode instr words ≡ agreed same (holds test (left words) (right words))
+
+-- the instruction with this opcode and these registers compares the words in two registers
+abbrev pub Compares : ℕ → ℕ → ℕ → Opcode → ℕ → ℕ → Bool → Type 0
+Compares test left right opcode a b same = IsBranch opcode × ((instr : Instr) (words : List ℕ) → instr.a ≡ a → instr.b ≡ b
+    → leaves_if opcode instr words ≡ agreed same (holds test (slice_index words left) (slice_index words right)))
+
+-- a word is above a bound if its comparison with a number holds, or only if it does not
+abbrev pub Limits : ℕ → ℕ → ℕ → Bool → Type 0
+Limits test number most same = (word : ℕ) → nat_lt most word ≡ agreed same (holds test word number)
+
+-- all that is known where control may go on: it is enough to look at that
+abbrev pub AllSound : List ℕ → List Item → List Placed → List (Option Seen) → Type 0
+AllSound text items placed waiting = (k : ℕ) (seen : Seen) → slice_get waiting k ≡ Some (Some seen) → Sound text items placed seen
 
 -- the source says an item there
 abbrev pub IsPlace : List Item → ℕ → ℕ → Type 0

@@ -3,7 +3,7 @@
 ghost use Rattle.std.specs.Prelude.{◌≡◌, IsTrue, IfSome, Some, slice_get};
 ghost use Rattle.tkv_syntax.specs.declared.item.ItemKind.TheVariants as kind;
 ghost use Rattle.tkv_names.specs.declared.seen.Known.TheVariants as what;
-ghost use Rattle.tkv_names.specs.Seen.{Leads, Sound, IsDone, IsOut, OnWords, OnBoth, IsBeside, IsSetting, IsPassed, IsOver};
+ghost use Rattle.tkv_names.specs.Seen.{Leads, Sound, IsDone, IsOut, OnWords, OnBoth, IsBeside, IsSetting, IsPassed, IsPart, IsOver};
 
 use crate::held::{register_of, renamed};
 use crate::joined::{commutes, folded, immediate};
@@ -13,7 +13,7 @@ use geos_opcodes::Opcode;
 use tkv_places::{Placed, PlacedKind};
 use tkv_syntax::{Item, ItemKind};
 
-/// A source, with the items that it writes, and a placed routine.
+/// A source, with the items that it writes, and a placed routine without its return.
 #[derive(Clone, Copy)]
 pub(crate) struct Check<'t> {
     pub text: &'t [u8],
@@ -22,14 +22,14 @@ pub(crate) struct Check<'t> {
 }
 
 impl Check<'_> {
-    /// The placed instruction at an index, if control continues after it.
-    fn done_at(&self, index: usize) -> Option<Instr>
-        ensures { IfSome result (λ instr. IsDone self.now.placed.now index instr) }
+    /// The next placed instruction, if control continues after it.
+    fn done_at(&self, seen: &Seen) -> Option<Instr>
+        ensures { IfSome result (λ instr. IsDone self.now.placed.now seen.now.placed seen.now.level instr) }
     {
-        match self.placed.get(index) {
+        match self.placed.get(seen.placed) {
             Some(item) => match item.kind {
                 PlacedKind::Do => {
-                    if item.to == u16::MAX {
+                    if item.to == u16::MAX && seen.level <= 65_535 {
                         Some(item.instr)
                     } else {
                         None
@@ -42,11 +42,11 @@ impl Check<'_> {
     }
 
     /// The last value, a constant, is loaded into a register.
-    fn loaded(&self, seen: Seen, number: u16) -> Option<Seen>
+    pub(crate) fn loaded(&self, seen: Seen, number: u16) -> Option<Seen>
         ensures { seen.first ≡ what.Constant number → IfSome result (λ next. (next.item ≡ seen.item)
             × Leads self.now.text.now self.now.items.now self.now.placed.now seen next) }
     {
-        let instr = self.done_at(seen.placed)?;
+        let instr = self.done_at(&seen)?;
         if instr.opcode != Opcode::Ldi || instr.imm != number {
             return None;
         }
@@ -58,11 +58,11 @@ impl Check<'_> {
     }
 
     /// The value before the last one, a constant, is loaded into a register.
-    fn second_loaded(&self, seen: Seen, number: u16) -> Option<Seen>
+    pub(crate) fn second_loaded(&self, seen: Seen, number: u16) -> Option<Seen>
         ensures { seen.second ≡ what.Constant number → IfSome result (λ next. (next.item ≡ seen.item)
             × Leads self.now.text.now self.now.items.now self.now.placed.now seen next) }
     {
-        let instr = self.done_at(seen.placed)?;
+        let instr = self.done_at(&seen)?;
         if instr.opcode != Opcode::Ldi || instr.imm != number {
             return None;
         }
@@ -101,7 +101,7 @@ impl Check<'_> {
     fn on_words(&self, seen: Seen, opcode: Opcode) -> Option<Seen>
         ensures { IfSome result (λ next. OnWords self.now.placed.now opcode seen next) }
     {
-        let instr = self.done_at(seen.placed)?;
+        let instr = self.done_at(&seen)?;
         let (Known::Register(left), Known::Register(right)) = (seen.second, seen.first) else {
             return None;
         };
@@ -119,7 +119,7 @@ impl Check<'_> {
     {
         let by = immediate(item.kind, number)?;
         let (opcode, imm) = by;
-        let instr = self.done_at(seen.placed)?;
+        let instr = self.done_at(&seen)?;
         if instr.opcode != opcode || instr.b != register || instr.imm != imm {
             return None;
         }
@@ -220,9 +220,9 @@ impl Check<'_> {
                     return Some(seen);
                 }
             }
-            None => return None,
+            None => return Some(seen),
         }
-        let instr = self.done_at(seen.placed)?;
+        let instr = self.done_at(&seen)?;
         if instr.opcode != Opcode::Mov || instr.b != register {
             return None;
         }
@@ -278,15 +278,17 @@ impl Check<'_> {
         self.bound(ready, item)
     }
 
-    /// Whether the placed item outputs a register.
-    fn is_out(&self, index: usize, register: u8) -> bool
-        ensures { IsTrue result → IsOut self.now.placed.now index register }
+    /// Whether the next placed item outputs a register, and the routine ends if that is refused.
+    fn is_out(&self, seen: &Seen, register: u8) -> bool
+        ensures { IsTrue result → IsOut self.now.placed.now seen.now.placed seen.now.level register }
     {
-        match self.placed.get(index) {
-            Some(item) => match item.kind {
-                PlacedKind::Do => item.instr.opcode == Opcode::Out && item.instr.a == register,
-                _ => false,
-            },
+        match self.fork_at(seen) {
+            Some(fork) => {
+                if fork.instr.opcode != Opcode::Out || fork.instr.a != register {
+                    return false;
+                }
+                self.is_over(fork.target.index)
+            }
             None => false,
         }
     }
@@ -298,7 +300,7 @@ impl Check<'_> {
     {
         match seen.first {
             Known::Register(register) => {
-                if !self.is_out(seen.placed, register) {
+                if !self.is_out(&seen, register) {
                     return None;
                 }
                 match (seen.item.checked_add(1), seen.placed.checked_add(1)) {
@@ -334,6 +336,16 @@ impl Check<'_> {
         }
     }
 
+    /// Past the part of the source that an item ends.
+    fn past(&self, seen: Seen, item: &Item) -> Option<Seen>
+        ensures { slice_get self.now.items.now seen.item ≡ Some item.now → IsPart item.now
+            → IfSome result (λ next. Leads self.now.text.now self.now.items.now self.now.placed.now seen next) }
+    {
+        let from = seen.item.checked_add(1)?;
+        let next = self.part_end(from)?;
+        Some(Seen { item: next, ..seen })
+    }
+
     /// After a number.
     fn number(&self, seen: Seen, item: &Item) -> Option<Seen>
         ensures { slice_get self.now.items.now seen.item ≡ Some item.now → item.now.kind ≡ kind.Number
@@ -352,7 +364,10 @@ impl Check<'_> {
     {
         match item.kind {
             ItemKind::Begin if item.a == 0 => self.passed(seen, item),
-            ItemKind::End => self.passed(seen, item),
+            ItemKind::End | ItemKind::If | ItemKind::Alt | ItemKind::IfEnd => {
+                self.passed(seen, item)
+            }
+            ItemKind::AltEnd | ItemKind::CondEnd | ItemKind::Else => self.past(seen, item),
             ItemKind::Let if item.b == 1 => self.set(seen, item),
             ItemKind::Assign if item.b == 1 => self.set(seen, item),
             _ => None,
@@ -380,18 +395,11 @@ impl Check<'_> {
         }
     }
 
-    /// Whether the placed item ends the block, or leaves it.
+    /// Whether no placed item is left.
     fn is_over(&self, index: usize) -> bool
         ensures { IsTrue result → IsOver self.now.placed.now index }
     {
-        match self.placed.get(index) {
-            Some(item) => match item.kind {
-                PlacedKind::End => true,
-                PlacedKind::Leave => true,
-                _ => false,
-            },
-            None => false,
-        }
+        index >= self.placed.len()
     }
 
     /// Whether the item ends the routine.
@@ -407,14 +415,14 @@ impl Check<'_> {
     }
 
     /// The item of the source at an index.
-    fn item_at(&self, index: usize) -> Option<Item>
+    pub(crate) fn item_at(&self, index: usize) -> Option<Item>
         ensures { IfSome result (λ item. slice_get self.now.items.now index ≡ Some item) }
     {
         self.items.get(index).copied()
     }
 
     /// Whether the next item ends the routine.
-    fn is_ended(&self, seen: Seen) -> bool
+    pub(crate) fn is_ended(&self, seen: Seen) -> bool
         ensures { IsTrue result → Sound self.now.text.now self.now.items.now self.now.placed.now seen }
     {
         match self.item_at(seen.item) {
@@ -424,29 +432,12 @@ impl Check<'_> {
     }
 
     /// After the next item.
-    fn next(&self, seen: Seen) -> Option<Seen>
+    pub(crate) fn next(&self, seen: Seen) -> Option<Seen>
         ensures { IfSome result (λ next. Leads self.now.text.now self.now.items.now self.now.placed.now seen next) }
     {
         match self.item_at(seen.item) {
             Some(item) => self.after(seen, &item),
             None => None,
         }
-    }
-
-    /// Whether the placed items do what the items of the source say from here on.
-    pub(crate) fn is_sound(&self, first: Seen) -> bool
-        ensures { IsTrue result → Sound self.now.text.now self.now.items.now self.now.placed.now first }
-    {
-        let mut seen = first;
-        for _ in 0..self.items.len() {
-            if self.is_ended(seen) {
-                return true;
-            }
-            match self.next(seen) {
-                Some(next) => seen = next,
-                None => return false,
-            }
-        }
-        false
     }
 }

@@ -1,7 +1,7 @@
 //! Which names' words registers have.
 
 ghost use Rattle.std.specs.Prelude.{◌≡◌, ◌<◌, ◌≤◌, IfSome, slice_get};
-ghost use Rattle.tkv_names.specs.Seen.{HasName, is_name, Clears, Cleared, Renames};
+ghost use Rattle.tkv_names.specs.Seen.{HasName, is_name, Clears, Cleared, Renames, KeepsOne, KeepsBelow};
 
 use crate::name::same_name;
 
@@ -68,4 +68,44 @@ pub(crate) fn renamed(
     let mut left = forgotten(text, held, at, 8);
     left[register as usize] = Some(at);
     left
+}
+
+/// A register has the word of a name only if it has the word of the same name in another list.
+fn kept(
+    text: &[u8],
+    held: [Option<u32>; 8],
+    other: &[Option<u32>],
+    register: usize,
+) -> [Option<u32>; 8]
+    requires { register < 8 }
+    ensures { KeepsOne text.now held other.now register result }
+{
+    match held[register] {
+        Some(at) => {
+            if has_name(text, other, register, at) {
+                return held;
+            }
+        }
+        None => return held,
+    }
+    let mut left = held;
+    left[register] = None;
+    left
+}
+
+/// The registers below one have the words of names only if they have them in another list, too.
+pub(crate) fn shared(
+    text: &[u8],
+    held: [Option<u32>; 8],
+    other: &[Option<u32>],
+    below: usize,
+) -> [Option<u32>; 8]
+    requires { below ≤ 8 }
+    ensures { KeepsBelow text.now held other.now below result }
+{
+    if below == 0 {
+        return held;
+    }
+    let left = shared(text, held, other, below - 1);
+    kept(text, left, other, below - 1)
 }

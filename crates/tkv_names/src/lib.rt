@@ -8,6 +8,9 @@ mod joined;
 mod name;
 mod routine;
 mod seen;
+mod tested;
+mod waiting;
+mod ways;
 
 pub use covered::{NamedSource, named_routines, named_source};
 pub use routine::means_named;

@@ -1,17 +1,14 @@
 //! Routines of a source, and their placed ones.
 
-ghost use Rattle.std.specs.Prelude.{◌≡◌, ◌<◌, ◌≤◌, ℕ, suc, List, length, IsTrue, IfSome, Some, slice_get};
+ghost use Rattle.std.specs.Prelude.{◌≡◌, ℕ, List, IsTrue, IfSome, Some, slice_get};
 ghost use Rattle.tkv_syntax.specs.declared.item.ItemKind.TheVariants as kind;
 ghost use Rattle.tkv_names.specs.Named.{parameters};
-ghost use Rattle.tkv_names.specs.Straight.{IsPlain, IsStraight};
 ghost use Rattle.tkv_names.specs.Seen.{Agrees, IsPlace, Begins, MeansNamed};
-ghost use Rattle.tkv_checks.specs.Items.{ItemAt};
-ghost use Rattle.tkv_places.specs.declared.placed.PlacedKind.TheVariants as placed_kind;
 
 use crate::check::Check;
 use crate::held::renamed;
 use crate::seen::{Known, Seen};
-use tkv_places::{Placed, PlacedKind};
+use tkv_places::Placed;
 use tkv_syntax::{Item, ItemKind};
 
 /// Where the source says an item.
@@ -67,7 +64,8 @@ fn begun(text: &[u8], items: &[Item], index: usize) -> Option<Seen>
     let item = index.checked_add(2 + usize::from(count))?;
     Some(Seen {
         item,
-        placed: 1,
+        placed: 0,
+        level: 0,
         held,
         first: Known::Nothing,
         second: Known::Nothing,
@@ -76,93 +74,18 @@ fn begun(text: &[u8], items: &[Item], index: usize) -> Option<Seen>
     })
 }
 
-/// Whether an item of a placed routine begins a block.
-fn is_block(placed: &[Placed], index: usize) -> bool
-    ensures { IsTrue result → ItemAt placed.now index (λ item. item.kind ≡ placed_kind.Block) }
-{
-    match placed.get(index) {
-        Some(item) => match item.kind {
-            PlacedKind::Block => true,
-            _ => false,
-        },
-        None => false,
-    }
-}
-
-/// Whether an item of a placed routine ends a block.
-fn is_end(placed: &[Placed], index: usize) -> bool
-    ensures { IsTrue result → ItemAt placed.now index (λ item. item.kind ≡ placed_kind.End) }
-{
-    match placed.get(index) {
-        Some(item) => match item.kind {
-            PlacedKind::End => true,
-            _ => false,
-        },
-        None => false,
-    }
-}
-
-/// Whether an item of a placed routine is an instruction or a leave.
-fn is_plain(placed: &[Placed], index: usize) -> bool
-    ensures { IsTrue result → ItemAt placed.now index IsPlain }
-{
-    match placed.get(index) {
-        Some(item) => match item.kind {
-            PlacedKind::Do => true,
-            PlacedKind::Leave => true,
-            _ => false,
-        },
-        None => false,
-    }
-}
-
-/// Whether the items from one on, up to an end, are instructions and leaves.
-fn are_plain(placed: &[Placed], end: usize) -> bool
-    ensures { IsTrue result → (k : ℕ) → 0 < k → k < end → ItemAt placed.now k IsPlain }
-{
-    for index in 1..end {
-        if !is_plain(placed, index) {
-            return false;
-        }
-    }
-    true
-}
-
-/// Whether the items are one block, without others within it, which ends at an index.
-fn is_bracketed(placed: &[Placed], end: usize) -> bool
-    ensures { IsTrue result → length placed.now ≡ suc (suc end) → IsStraight placed.now }
-{
-    if !is_block(placed, 0) {
-        return false;
-    }
-    if !is_end(placed, end) {
-        return false;
-    }
-    are_plain(placed, end)
-}
-
-/// Whether a placed routine is one block, without others within it, and a return.
-fn is_straight(placed: &[Placed]) -> bool
-    ensures { IsTrue result → IsStraight placed.now }
-{
-    match placed.len().checked_sub(2) {
-        Some(end) => is_bracketed(placed, end),
-        None => false,
-    }
-}
-
 /// Whether the placed routine outputs what the source says of the routine that an item declares, whatever words it is called with. The check
 /// goes over the items of the routine once.
 pub fn means_named(text: &[u8], items: &[Item], index: usize, placed: &[Placed]) -> bool
     ensures { IsTrue result → MeansNamed text.now items.now index placed.now }
 {
-    if !is_straight(placed) {
+    let Some(end) = placed.len().checked_sub(1) else {
         return false;
-    }
+    };
     let check = Check {
         text,
         items,
-        placed,
+        placed: &placed[..end],
     };
     match begun(text, items, index) {
         Some(seen) => check.is_sound(seen),

@@ -32,6 +32,8 @@ pub(crate) struct Seen {
     /// The next item of the source, and the next placed one.
     pub item: usize,
     pub placed: usize,
+    /// How many brackets are open around the next placed item.
+    pub level: usize,
     /// Where the source has the name of the word that a register has.
     pub held: [Option<u32>; 8],
     /// The last four values that are not used yet, the last one first.

@@ -10,6 +10,7 @@ returns c = record {
   declares = c.in_ok-head.ensures.1;
   item = omega arith;
   placed = refl;
+  level = refl;
   held = λ words. subst (λ (f : ℕ). Agrees c.args.text.now c.in_ok-held.held (parameters c.args.text.now c.args.items.now f words c.in_ok-head.head.b) words)
       first (c.in_ok-held.ensures words);
   first = refl;

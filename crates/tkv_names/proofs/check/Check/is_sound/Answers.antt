@@ -1,8 +1,13 @@
-use Rattle.tkv_names.proofs.Cases.{chain}
 use Rattle.tkv_names.proofs.check.Check.is_sound.Goals as goal
 
-pub loop-preserved : goal.loop-preserved
-loop-preserved c = chain c.args.self.now.text.now c.args.self.now.items.now c.args.self.now.placed.now c.args.first c.loop.seen c.in-Some.next c.loop.invariant c.in-Some.ensures
+pub loop-index-init : goal.loop-index-init
+loop-index-init c all = (c.in-Some.ensures all).1
 
-pub returns-then-is_ended : goal.returns-then-is_ended
-returns-then-is_ended c t = c.loop.invariant (c.if-is_ended.ensures t)
+pub loop-index-preserved : goal.loop-index-preserved
+loop-index-preserved c all = c.loop-index.invariant (c.in-Some-after_item.ensures all)
+
+pub returns-then-is_empty : goal.returns-then-is_empty
+returns-then-is_empty c t = c.loop-index.invariant (λ k seen e. absurd (c.if-is_empty.ensures t k seen e))
+
+pub returns : goal.returns
+returns c t = c.loop-index.invariant (λ k seen e. absurd (c.is_empty-2.ensures t k seen e))
