@@ -83,7 +83,7 @@ assigned : Says text assigns Next env [] (7 ∷ [])
 unfolding assigns text env item
 assigned = (10, 3, [], refl, (refl, (7, [], refl, (7, [], refl, inr ([], refl, refl)))))
 
--- if x < 11 { out(1)?; } else { out(2)?; } outputs 1
+-- of `if x < 11` the first branch outputs 1, and the other one 2
 conditional : List Item
 conditional = item kind.If 0 0 ∷ item kind.Alt 0 0 ∷ item kind.Named 0 0 ∷ item kind.Number 0 11 ∷ item kind.Test 0 2 ∷ item kind.AltEnd 0 0 ∷ item kind.CondEnd 0 0
     ∷ item kind.Number 0 1 ∷ item kind.Put 0 0 ∷ item kind.Else 0 0 ∷ item kind.Number 0 2 ∷ item kind.Put 0 0 ∷ item kind.IfEnd 0 0 ∷ item kind.BodyEnd 0 0 ∷ []

@@ -97,8 +97,11 @@ one_more text items first k old new item there renames before ws = subst (λ (o 
 
 pub keeps_all : (text : List ℕ) (held other : List (Option ℕ)) (k : ℕ) → ((a : ℕ) → slice_get held k ≡ Some (Some a)
     → is_name text (slice_get other k) a ≡ true) → KeepsOne text held other k held
-keeps_all text held other k is r a e = (e, λ same. subst (λ (q : ℕ). is_name text (slice_get other q) a ≡ true) (sym same)
-    (is a (subst (λ (q : ℕ). slice_get held q ≡ Some (Some a)) same e)))
+keeps_all text held other k is r a e = (
+  e,
+  λ same. subst (λ (q : ℕ). is_name text (slice_get other q) a ≡ true) (sym same)
+      (is a (subst (λ (q : ℕ). slice_get held q ≡ Some (Some a)) same e)),
+)
 
 pub keeps_none : (text : List ℕ) (held other : List (Option ℕ)) (k : ℕ) → KeepsOne text held other k (slice_set held k None)
 keeps_none text held other k r a e = let old = taken_out held k r a e in (old.0, λ same. absurd (old.1 same))

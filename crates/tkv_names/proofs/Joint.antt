@@ -68,8 +68,10 @@ module _ (text : List ℕ) (items : List Item) (placed : List Placed) where
 
   pub with_new : (waiting : List (Option Seen)) (k : ℕ) (seen : Seen) → slice_get waiting k ≡ Some None
       → AllSound text items placed (slice_set waiting k (Some seen)) → AllSound text items placed waiting × Sound text items placed seen
-  with_new waiting k seen at all = ((λ j s e. all j s (put_other waiting k j (Some seen) (nothing_there waiting k j s at e) ∙ e)),
-      all k seen (put_same waiting k None (Some seen) at))
+  with_new waiting k seen at all = (
+    (λ j s e. all j s (put_other waiting k j (Some seen) (nothing_there waiting k j s at e) ∙ e)),
+    all k seen (put_same waiting k None (Some seen) at),
+  )
 
   pub without : (waiting : List (Option Seen)) (k : ℕ) (seen : Seen) → slice_get waiting k ≡ Some (Some seen)
       → AllSound text items placed (slice_set waiting k None) × Sound text items placed seen → AllSound text items placed waiting

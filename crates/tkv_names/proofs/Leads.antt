@@ -262,7 +262,7 @@ module _ (text : List ℕ) (items : List Item) (placed : List Placed) (seen : Se
       got = sound env (env (name_at text item.at) ∷ vs) x y (tied_pushed text seen env (known.Register r) (env (name_at text item.at)) vs x.words
           (ap (λ (n : ℕ). Some n) value) tied) d
 
-  -- an item that does nothing, after which control goes on with another one
+  -- an item that does nothing, after which control continues with another one
   pub passes : (item : Item) (n : ℕ) → slice_get items seen.item ≡ Some item
       → ((env : Env) (vs more : List ℕ) → Says text (drop n items) Next env vs more
       → DoesItem text item item.kind (Says text (drop (suc seen.item) items)) env vs more)

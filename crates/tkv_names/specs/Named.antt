@@ -50,12 +50,12 @@ holds test x y =
     if test == 3 then not (nat_lt x y) else
     if test == 4 then nat_lt y x else not (nat_lt y x)
 
--- where control goes on: with the next item, or past the part that contains it, if so many parts that begin within it have not ended
+-- where control continues: with the next item, or past the part that contains it, if so many parts that begin within it have not ended
 pub data Turn : Type 0 where
   Next : Turn
   Past : ℕ → Turn
 
--- where control goes on after an item that is passed over. The parts of a condition end with `AltEnd` and `CondEnd`, and the statements of its
+-- where control continues after an item that is passed over. The parts of a condition end with `AltEnd` and `CondEnd`, and the statements of its
 -- branches with `Else` and `IfEnd`.
 abbrev pub passed : ItemKind → ℕ → Turn
 passed kind.If n = Past (suc n)

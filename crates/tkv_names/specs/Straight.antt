@@ -14,7 +14,7 @@ Any choice = Unit {0}
 abbrev pub Doing : Type 1
 Doing = ℕ → Way → Scope → Scope → Type 0
 
--- what an item does, before the items that follow it. Nothing is said of loops and locks.
+-- what an item does, before the items that follow it. Of loops and locks it says nothing.
 abbrev pub Goes : Placed → PlacedKind → Doing → Doing
 Goes item kind.End rest (suc d) way x y = rest d (outside d way) x y
 Goes item kind.Do rest d On x y = (m z : Scope) × Drifts Any x m

@@ -86,10 +86,22 @@ fn limit(test: u32, number: u16) -> Option<Bound>
     ensures { IfSome result (λ one. Limits test number one.most one.same) }
 {
     match test {
-        4 => Some(Bound { most: number, same: true }),
-        5 => Some(Bound { most: number, same: false }),
-        2 => Some(Bound { most: number.checked_sub(1)?, same: false }),
-        3 => Some(Bound { most: number.checked_sub(1)?, same: true }),
+        4 => Some(Bound {
+            most: number,
+            same: true,
+        }),
+        5 => Some(Bound {
+            most: number,
+            same: false,
+        }),
+        2 => Some(Bound {
+            most: number.checked_sub(1)?,
+            same: false,
+        }),
+        3 => Some(Bound {
+            most: number.checked_sub(1)?,
+            same: true,
+        }),
         _ => None,
     }
 }
@@ -99,8 +111,14 @@ fn nil_limit(test: u32) -> Option<Bound>
     ensures { IfSome result (λ one. Limits test 0 one.most one.same) }
 {
     match test {
-        0 => Some(Bound { most: 0, same: false }),
-        1 => Some(Bound { most: 0, same: true }),
+        0 => Some(Bound {
+            most: 0,
+            same: false,
+        }),
+        1 => Some(Bound {
+            most: 0,
+            same: true,
+        }),
         _ => None,
     }
 }

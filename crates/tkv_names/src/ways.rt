@@ -160,7 +160,7 @@ impl Check<'_> {
         }
     }
 
-    /// Where control goes on after a placed item, if that is no instruction and begins no loop.
+    /// What control comes to after a placed item, if that is no instruction and begins no loop.
     fn onward(&self, spot: Spot) -> Option<Spot>
         ensures { IfSome result (λ next. Reaches self.now.placed.now spot.index spot.level next.index next.level) }
     {
