@@ -7,7 +7,7 @@ ghost use Rattle.geos_texts.specs.Keeping.{KeepsToGrants, KeepsToSteps, IsDenied
 use crate::budgets::first_over;
 use crate::commands::effect_comments;
 use crate::fault::TextFault;
-use crate::runnable::Runnable;
+use crate::runnable::{Runnable, accepted};
 use effect_texts::{grants_of, put_excess};
 use geos_grants::{Effects, Excess, grant};
 use geos_image::{Image, ReadError, Routine};
@@ -35,9 +35,9 @@ fn excess_text(
 /// The comments with the effects of each routine of an image; none of one that the verifier refuses. `ReadError::BadImage` if the bytes
 /// encode no image.
 pub(crate) fn effect_lines(alloc: Global, bytes: &[u8]) -> Result<Vec<u8>, ReadError> {
-    match check(geos_image::read(alloc, bytes)?) {
-        Ok(checked) => Ok(effect_comments(alloc, &checked)?),
-        Err(_) => Ok(Vec::new(alloc)),
+    match accepted(alloc, bytes)? {
+        Some(checked) => Ok(effect_comments(alloc, &checked)?),
+        None => Ok(Vec::new(alloc)),
     }
 }
 

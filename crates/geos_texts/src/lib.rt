@@ -11,6 +11,7 @@ mod files;
 mod grants;
 mod limited;
 mod no_rows;
+mod objects;
 mod requests;
 mod runnable;
 mod source_lines;
@@ -19,9 +20,10 @@ mod sources;
 pub use fault::{FaultyText, Refused, TextFault};
 pub use files::uses_files;
 pub use limited::{Limited, Limits};
+pub use objects::{Wanted, findings_in_text, put_advice, put_read};
 pub use requests::{
     KnownLines, MOST_READ, assemble, assemble_all, budget, check, explain, explain_script, format,
     known_at_lines, known_lines, list, read_and_warn, tell_warning,
 };
 pub use runnable::Runnable;
-pub use sources::{FaultySource, LineWarning, ScriptOfTest};
+pub use sources::{FaultySource, LineWarning, ScriptOfTest, formatted_text};

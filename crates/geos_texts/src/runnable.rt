@@ -8,9 +8,11 @@ use crate::sources::{LineWarning, ScriptOfTest, compiled, scripts_of, warning_li
 use geos_asm::completed;
 use geos_explain::diagnose;
 use geos_image::ReadError;
+use geos_input::ScriptFault;
 use geos_lints::{Advice, advice_on_call, warnings};
+use geos_scripts::{NameUse, tell_bad_lines};
 use geos_shell::{Named, StreamFault, TextPath, read};
-use geos_verify::{check, refused_places};
+use geos_verify::{Checked, check, refused_places};
 use line_marks::{LineMarks, Origin, origins_of};
 use std::alloc::{AllocError, Global};
 
@@ -63,6 +65,15 @@ pub(crate) fn read_completed<'a>(
     match Unmarked::completed(rt.alloc(), read(rt, path, MOST_READ)?) {
         Ok(unmarked) => Ok(unmarked),
         Err(_) => Err(StreamFault::Memory),
+    }
+}
+
+/// The image that bytes encode, if the verifier accepts it. `ReadError::BadImage` if they encode none. It promises nothing, so that a proof
+/// about its callers does not go over the rules of the verifier.
+pub(crate) fn accepted(alloc: Global, bytes: &[u8]) -> Result<Option<Checked>, ReadError> {
+    match check(geos_image::read(alloc, bytes)?) {
+        Ok(checked) => Ok(Some(checked)),
+        Err(_) => Ok(None),
     }
 }
 
@@ -200,14 +211,15 @@ impl<'a> Runnable<'a> {
         }
         let path = Named(self.path);
         let file = format!(in alloc; "{path}")?;
-        match check(geos_image::read(alloc, &self.image)?) {
-            Ok(checked) => {
+        match accepted(alloc, &self.image)? {
+            Some(checked) => {
                 let told = warnings(alloc, &file, &self.text, lines, checked.image())?;
                 Ok(by_marks(alloc, &self.marks, &file, told))
             }
-            Err(_) => Ok(Vec::new(alloc)),
+            None => Ok(Vec::new(alloc)),
         }
     }
+
     /// What a warning says of a call with so many numbers of the routine with the name; none if there is nothing to warn of, or if the verifier
     /// refuses the image. `ReadError::BadImage` if the bytes encode no image.
     pub fn advice_on_call(
@@ -216,9 +228,23 @@ impl<'a> Runnable<'a> {
         name: &str,
         numbers: usize,
     ) -> Result<Option<Advice>, ReadError> {
-        match check(geos_image::read(alloc, &self.image)?) {
-            Ok(checked) => Ok(advice_on_call(alloc, checked.image(), name, numbers)?),
-            Err(_) => Ok(None),
+        match accepted(alloc, &self.image)? {
+            Some(checked) => Ok(advice_on_call(alloc, checked.image(), name, numbers)?),
+            None => Ok(None),
         }
+    }
+
+    /// The image, if the verifier accepts it. Otherwise the fault of a session on it: `ScriptFault::Rejected` names the first refusal.
+    pub fn checked(&self, alloc: Global) -> Result<Checked, ScriptFault> {
+        match check(geos_image::read(alloc, &self.image)?) {
+            Ok(checked) => Ok(checked),
+            Err((_image, reject)) => Err(ScriptFault::from(reject)),
+        }
+    }
+
+    /// What is wrong with the bad lines of a script for the image, which may use names, as `explain_script` prints it. The faults are those of
+    /// a script that are found before it runs, except for its bad lines.
+    pub fn tell_bad_lines(&self, alloc: Global, script: &[u8]) -> Result<Vec<u8>, ScriptFault> {
+        Ok(tell_bad_lines(alloc, &self.image, script, NameUse::Allowed)?.told)
     }
 }

@@ -3,7 +3,7 @@
 use crate::fault::{TextFault, by_marks, said_by_marks};
 use crate::runnable::Runnable;
 use geos_image::write;
-use geos_shell::Named;
+use geos_shell::{Named, TextPath};
 use line_marks::LineMarks;
 use std::alloc::{AllocError, Global};
 use std::fmt::{self, Display, Formatter};
@@ -230,6 +230,21 @@ pub(crate) fn formatted_source<'a>(
         Err(Unformatted::Fault(fault)) => {
             Err(faulty(alloc, path, text, LineMarks::new(alloc), &fault))
         }
+    }
+}
+
+/// The text in columns, or the source in one layout, which the ending of the path tells; none if a word of a source is none.
+pub fn formatted_text(
+    alloc: Global,
+    path: &str,
+    text: &[u8],
+) -> Result<Option<Vec<u8>>, AllocError> {
+    if !TextPath::by_ending(path).is_source() {
+        return Ok(Some(line_marks::formatted(alloc, text)?));
+    }
+    match formatted(alloc, text) {
+        Ok(made) => Ok(Some(made)),
+        Err(_) => Ok(None),
     }
 }
 
