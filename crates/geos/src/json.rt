@@ -3,9 +3,8 @@
 use geos_json::JsonLines;
 use geos_lints::Advice;
 use geos_shell::{Diagnosed, Reported, Reports, StreamFault, TextPath, done_or_reported, print};
-use geos_texts::{Runnable, TextFault, assemble, assemble_all};
-use json_findings::{Finding, Severity, put_finding};
-use language_server::{Judged, Wanted, put_read};
+use geos_texts::{Runnable, TextFault, Wanted, assemble, assemble_all, put_advice, put_read};
+use geos_verify::Reject;
 use std::fmt::Display;
 
 /// Prints objects.
@@ -54,34 +53,20 @@ pub(crate) fn print_end(rt: &HostRuntime, status: u64) -> Result<(), StreamFault
 
 /// Prints a warning about the file with the path.
 pub(crate) fn print_warning(rt: &HostRuntime, path: &str, advice: &Advice) {
-    let Ok(message) = advice.sentence(rt.alloc()) else {
-        return;
-    };
     let mut out = JsonLines::new(rt.alloc());
-    let finding = Finding {
-        marks: None,
-        severity: Severity::Warning,
-        file: path,
-        line: None,
-        column: None,
-        at: None,
-        cause: None,
-        cure: Some(&advice.cure),
-        message: &message,
-    };
-    if put_finding(rt.alloc(), &mut out, &finding).is_ok() {
+    if put_advice(rt.alloc(), &mut out, path, advice).is_ok() {
         // If the standard output fails, what follows reports it.
         let _ = print_objects(rt, out);
     }
 }
 
-/// Prints what is found in an image that was read, or why none was, and returns the image and its first refusal.
+/// Prints what is found in an image that was read, or why none was, and returns the first refusal of the image.
 fn told<'a>(
     rt: &HostRuntime,
     reports: Reports,
-    read: Result<Runnable<'a>, TextFault<'a>>,
+    read: &Result<Runnable<'a>, TextFault<'a>>,
     effects: bool,
-) -> Result<Judged<'a>, TextFault<'a>> {
+) -> Result<Option<Reject>, TextFault<'a>> {
     let wanted = Wanted {
         warnings: reports.warnings,
         effects,
@@ -89,7 +74,7 @@ fn told<'a>(
     let mut out = JsonLines::new(rt.alloc());
     let judged = put_read(rt.alloc(), &mut out, read, wanted);
     print_objects(rt, out)?;
-    judged
+    Ok(judged?)
 }
 
 /// Reads what a path names, as `Runnable::read`, and prints what is found in it.
@@ -98,8 +83,9 @@ pub(crate) fn read_and_tell<'a>(
     reports: Reports,
     from: TextPath<'a>,
 ) -> Result<Runnable<'a>, TextFault<'a>> {
-    let judged = told(rt, reports, Runnable::read(rt, from), false)?;
-    Ok(judged.image)
+    let read = Runnable::read(rt, from);
+    told(rt, reports, &read, false)?;
+    read
 }
 
 /// The same, and `TextFault::Explained` if the verifier refuses the image. `effects` says whether those of each routine are printed.
@@ -109,10 +95,11 @@ pub(crate) fn check_and_tell<'a>(
     from: TextPath<'a>,
     effects: bool,
 ) -> Result<(), TextFault<'a>> {
-    let judged = told(rt, reports, Runnable::read(rt, from), effects)?;
-    match judged.reject {
-        None => Ok(()),
-        Some(reject) => Err(TextFault::Explained(reject)),
+    let read = Runnable::read(rt, from);
+    match (told(rt, reports, &read, effects)?, read) {
+        (_, Err(fault)) => Err(fault),
+        (Some(reject), Ok(_)) => Err(TextFault::Explained(reject)),
+        (None, Ok(_)) => Ok(()),
     }
 }
 
@@ -132,6 +119,9 @@ pub(crate) fn assemble_and_tell<'a>(
     } else {
         assemble(rt, reports, text, image)
     };
-    told(rt, reports, made, false)?;
-    Ok(())
+    told(rt, reports, &made, false)?;
+    match made {
+        Ok(_) => Ok(()),
+        Err(fault) => Err(fault),
+    }
 }

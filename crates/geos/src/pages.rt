@@ -3,8 +3,7 @@
 use geos_json::JsonLines;
 use geos_pages::{Subject, html};
 use geos_shell::{Language, PagePaths, StreamFault, read, write};
-use geos_texts::{MOST_READ, Runnable, TextFault, known_at_lines, known_lines};
-use language_server::{Wanted, put_read};
+use geos_texts::{MOST_READ, Runnable, TextFault, Wanted, known_at_lines, known_lines, put_read};
 use line_marks::LineMarks;
 use std::alloc::{AllocError, Global};
 
@@ -79,15 +78,15 @@ pub(crate) fn explain_on_page<'a>(
         effects: true,
     };
     let mut data = JsonLines::new(alloc);
-    let judged = put_read(alloc, &mut data, found, wanted);
+    let judged = put_read(alloc, &mut data, &found, wanted);
     if let Some(Shown { subject, text }) = shown {
         let data = text_or_fault(data.finish())?;
         let made = text_or_fault(html(alloc, subject, paths.shown, &text, &data))?;
         write(rt, paths.page, &made, paths.shown)?;
     }
-    let judged = judged?;
-    match judged.reject {
-        None => Ok(()),
-        Some(reject) => Err(TextFault::Explained(reject)),
+    match (judged?, found) {
+        (_, Err(fault)) => Err(fault),
+        (Some(reject), Ok(_)) => Err(TextFault::Explained(reject)),
+        (None, Ok(_)) => Ok(()),
     }
 }

@@ -48,7 +48,7 @@ fn use_of(line: &[u8]) -> Option<Use<'_>> {
 }
 
 /// Whether a line of the source uses a file.
-pub fn uses_files(text: &[u8]) -> bool {
+pub(crate) fn uses_files(text: &[u8]) -> bool {
     let mut start = 0;
     for (at, byte) in text.iter().enumerate() {
         if *byte == b'\n' {

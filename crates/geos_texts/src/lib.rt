@@ -18,7 +18,6 @@ mod source_lines;
 mod sources;
 
 pub use fault::{FaultyText, Refused, TextFault};
-pub use files::uses_files;
 pub use limited::{Limited, Limits};
 pub use objects::{Wanted, findings_in_text, put_advice, put_read};
 pub use requests::{

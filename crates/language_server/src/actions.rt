@@ -1,15 +1,15 @@
 //! Edits that mend a finding.
 
-use crate::documents::Document;
+use crate::asked::Asked;
+use crate::documents::Page;
 use crate::edits::Mend;
-use crate::findings::{Finding, findings_of, object_in};
+use crate::findings::{Finding, findings_of, found_in, lines_in, object_in};
 use crate::insertions::mends_by_insertion;
 use crate::mender::Mender;
 use crate::positions::Span;
 use crate::reply::Reply;
 use crate::rows::put_rows;
-use serde_json::Value;
-use std::alloc::{AllocError, Global};
+use std::alloc::AllocError;
 
 /// Replaces a part of a line by a word, which ends the title.
 fn replace(mend: &mut Mend, title: &str, span: &Span<'_>, new: &str) {
@@ -21,8 +21,8 @@ fn replace(mend: &mut Mend, title: &str, span: &Span<'_>, new: &str) {
 
 /// Writes an action for the word that a cure says in place of the one at the column of the finding.
 fn put_other_word(out: &mut Reply, mender: &mut Mender<'_>, finding: &Finding<'_, '_>) {
-    if let Some(new) = finding.text("cure").strip_prefix("say ")
-        && finding.text("message").contains(" is no instruction")
+    if let Some(new) = finding.cure.strip_prefix("say ")
+        && finding.message.contains(" is no instruction")
         && !new.contains(" ")
     {
         replace(&mut mender.mend, "Replace by ", &finding.span, new);
@@ -43,9 +43,9 @@ fn digits_in(text: &str) -> usize {
 }
 
 /// The budget in the last line `routine` at this line or before it.
-fn budget_at(document: &Document, line: usize) -> Option<Span<'_>> {
+fn budget_at(text: &str, line: usize) -> Option<Span<'_>> {
     let mut found = None;
-    for (number, text) in document.text.split("\n").enumerate() {
+    for (number, text) in text.split("\n").enumerate() {
         if number > line {
             break;
         }
@@ -66,8 +66,8 @@ fn budget_at(document: &Document, line: usize) -> Option<Span<'_>> {
 
 /// Writes an action for the least budget in the line of the routine.
 fn put_least_budget(out: &mut Reply, mender: &mut Mender<'_>, finding: &Finding<'_, '_>) {
-    if let Some((_, least)) = finding.text("message").split_once("the least budget is ")
-        && let Some(budget) = budget_at(mender.document, finding.span.line)
+    if let Some((_, least)) = finding.message.split_once("the least budget is ")
+        && let Some(budget) = budget_at(mender.document.text, finding.span.line)
     {
         replace(&mut mender.mend, "Set the budget ", &budget, least);
         mender.put(out, finding)
@@ -86,38 +86,30 @@ fn put_mends(out: &mut Reply, mender: &mut Mender<'_>, finding: &Finding<'_, '_>
     }
 }
 
-/// The number of a line that a position of the request's range names.
-fn line_in(params: &Value, end: &str) -> usize {
-    match params.pointer(end) {
-        Some(line) => line.as_u64().unwrap_or(0) as usize,
-        None => 0,
-    }
-}
-
-/// Writes the actions that mend the findings among objects of `geos explain --json`, if they are about these lines of the document.
-fn put_all_mends(out: &mut Reply, document: &Document, objects: &[u8], first: usize, last: usize) {
-    let mut mender = Mender::new(out.alloc, document, objects);
-    for line in objects.split(|byte| *byte == b'\n') {
-        if let Some(object) = object_in(out.alloc, line)
-            && let Some(finding) = Finding::of(document, &object)
-            && first <= finding.span.line
-            && finding.span.line <= last
-        {
-            put_mends(out, &mut mender, &finding)
-        }
-    }
-    if mender.mend.has_failed() {
-        out.fail()
+/// Writes the actions that mend the finding that an object of `geos explain --json` is, if it is one about a line from the first to the last.
+fn put_mends_of(out: &mut Reply, mender: &mut Mender<'_>, line: &str, first: usize, last: usize) {
+    if let Some(object) = object_in(out.alloc, line)
+        && let Some(finding) = Finding::of(mender.document, &found_in(&object))
+        && first <= finding.span.line
+        && finding.span.line <= last
+    {
+        put_mends(out, mender, &finding)
     }
 }
 
 /// `textDocument/codeAction`: actions for the findings within the lines of the request that edits mend.
-pub(crate) fn put_actions(out: &mut Reply, document: &Document, params: &Value) {
-    let first = line_in(params, "/range/start/line");
-    let last = line_in(params, "/range/end/line");
+pub(crate) fn put_actions(out: &mut Reply, document: Page<'_>, asked: &Asked<'_>) {
     out.begin_items("");
     match findings_of(out.alloc, document) {
-        Ok(objects) => put_all_mends(out, document, &objects, first, last),
+        Ok(objects) => {
+            let mut mender = Mender::new(out.alloc, document, &objects);
+            for line in lines_in(&objects).split("\n") {
+                put_mends_of(out, &mut mender, line, asked.first, asked.last)
+            }
+            if mender.mend.has_failed() {
+                out.fail()
+            }
+        }
         Err(AllocError) => out.fail(),
     }
     out.raw("]")

@@ -1,53 +1,46 @@
 //! What requests about documents are answered.
 
 use crate::actions::put_actions;
-use crate::documents::{Document, MOST_BYTES};
+use crate::asked::Asked;
+use crate::documents::{MOST_BYTES, Page};
 use crate::hover::put_hover;
 use crate::methods::Method;
 use crate::outline::{
     put_completion, put_definition, put_formatting, put_references, put_rename, put_symbols,
 };
 use crate::reply::Reply;
-use line_marks::formatted;
-use serde_json::Value;
+use geos_texts::formatted_text;
 use std::alloc::{AllocError, Global};
 
 /// The text in columns, or the source in one layout; none if it is too long, or if a word of a source is none.
-fn in_columns(alloc: Global, document: &Document) -> Result<Option<String>, AllocError> {
-    let text = document.text.as_bytes();
-    if text.len() > MOST_BYTES {
+fn in_columns(alloc: Global, document: Page<'_>) -> Result<Option<String>, AllocError> {
+    if document.text.len() > MOST_BYTES {
         return Ok(None);
     }
-    let made = if document.is_source() {
-        match tkv_format::formatted(alloc, text) {
-            Ok(made) => made,
-            Err(_) => return Ok(None),
-        }
-    } else {
-        formatted(alloc, text)?
-    };
-    Ok(String::from_utf8(made).ok())
+    match formatted_text(alloc, document.uri, document.text.as_bytes())? {
+        Some(made) => Ok(String::from_utf8(made).ok()),
+        None => Ok(None),
+    }
 }
 
 /// Writes the result of a request about a document; `null` for a method that answers none.
 fn put_found(
-    alloc: Global,
     out: &mut Reply,
     method: Method,
-    document: &Document,
-    params: &Value,
+    document: Page<'_>,
+    asked: &Asked<'_>,
 ) -> Result<(), AllocError> {
     match method {
-        Method::Hover => put_hover(alloc, out, document, params)?,
-        Method::Actions => put_actions(out, document, params),
-        Method::Definition => put_definition(out, document, params),
-        Method::References => put_references(out, document, params),
-        Method::Rename => put_rename(out, document, params),
+        Method::Hover => put_hover(out, document, asked)?,
+        Method::Actions => put_actions(out, document, asked),
+        Method::Definition => put_definition(out, document, asked),
+        Method::References => put_references(out, document, asked),
+        Method::Rename => put_rename(out, document, asked),
         Method::Symbols => put_symbols(out, document),
         Method::Completion => put_completion(out, document),
         Method::Formatting => {
-            let made = in_columns(alloc, document)?;
-            put_formatting(out, document, made.as_deref())
+            let made = in_columns(out.alloc, document)?;
+            put_formatting(out, document.text, made)
         }
         _ => out.raw("null"),
     }
@@ -55,14 +48,8 @@ fn put_found(
 }
 
 /// Writes the result of a request about a document.
-pub(crate) fn put_answer(
-    alloc: Global,
-    out: &mut Reply,
-    method: Method,
-    document: &Document,
-    params: &Value,
-) {
-    if put_found(alloc, out, method, document, params).is_err() {
+pub(crate) fn put_answer(out: &mut Reply, method: Method, document: Page<'_>, asked: &Asked<'_>) {
+    if put_found(out, method, document, asked).is_err() {
         out.fail()
     }
 }

@@ -8,25 +8,32 @@ pub(crate) const MOST_DOCUMENTS: usize = 256;
 
 pub(crate) const MOST_BYTES: usize = 1_048_576;
 
-/// A document.
-#[derive(Drop)]
-pub(crate) struct Document {
+/// A document as it is read.
+#[derive(Clone, Copy)]
+pub(crate) struct Page<'d> {
     /// Its name.
-    pub(crate) uri: String,
+    pub(crate) uri: &'d str,
     /// Its text as the editor has it.
-    pub(crate) text: String,
+    pub(crate) text: &'d str,
 }
 
-impl Document {
+impl<'d> Page<'d> {
     /// Whether it is a source of the structured language, which the ending of its name tells.
     pub(crate) fn is_source(&self) -> bool {
         self.uri.ends_with(".tkv")
     }
 
     /// The line with this number, without its end.
-    pub(crate) fn line(&self, line: usize) -> &str {
-        line_of(&self.text, line)
+    pub(crate) fn line(&self, line: usize) -> &'d str {
+        line_of(self.text, line)
     }
+}
+
+/// A document.
+#[derive(Drop)]
+pub(crate) struct Document {
+    pub(crate) uri: String,
+    pub(crate) text: String,
 }
 
 /// The documents that are open.
@@ -44,10 +51,16 @@ impl Documents {
     }
 
     /// The document with the name, if it is open.
-    pub(crate) fn find(&self, uri: &str) -> Option<&Document> {
-        self.open
-            .iter()
-            .find(|document| document.uri.as_str() == uri)
+    pub(crate) fn find(&self, uri: &str) -> Option<Page<'_>> {
+        for document in &self.open {
+            if document.uri.as_str() == uri {
+                return Some(Page {
+                    uri: &document.uri,
+                    text: &document.text,
+                });
+            }
+        }
+        None
     }
 
     /// Forgets the document with the name.

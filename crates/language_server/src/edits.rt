@@ -1,6 +1,6 @@
 //! Edits of a document.
 
-use crate::documents::Document;
+use crate::documents::Page;
 use crate::findings::Finding;
 use crate::positions::{Span, put_range};
 use crate::reply::Reply;
@@ -61,7 +61,7 @@ impl Edit {
     }
 
     /// Writes it as the protocol's edit, after a part.
-    fn put(&self, out: &mut Reply, document: &Document, part: &str) {
+    fn put(&self, out: &mut Reply, document: Page<'_>, part: &str) {
         let span = Span {
             line: self.line,
             text: document.line(self.line),
@@ -129,12 +129,12 @@ impl Mend {
     }
 
     /// Writes an action that makes the edits.
-    pub(crate) fn put(&self, out: &mut Reply, document: &Document, finding: &Finding<'_, '_>) {
+    pub(crate) fn put(&self, out: &mut Reply, document: Page<'_>, finding: &Finding<'_, '_>) {
         out.item();
         out.quoted_bytes("{\"title\":", self.title.written());
         out.raw(",\"kind\":\"quickfix\",\"diagnostics\":[");
         finding.put(out, document);
-        out.quoted("],\"edit\":{\"changes\":{", &document.uri);
+        out.quoted("],\"edit\":{\"changes\":{", document.uri);
         self.first.put(out, document, ":[{\"range\":");
         if self.second.line != NO_LINE {
             self.second.put(out, document, ",{\"range\":")

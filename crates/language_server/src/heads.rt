@@ -1,9 +1,8 @@
-//! The first lines of routines, and the labels to which a routine may go if it gives up.
+//! The first lines of routines of an assembly text, and the labels to which a routine may go if it gives up.
 
-use crate::documents::Document;
 use crate::edits::NO_LINE;
 use crate::names::{code_of, next_word};
-use crate::positions::Span;
+use crate::positions::{Span, line_of};
 
 /// The numbers of the line `routine`, and of the lines `in` and `out`, which are `NO_LINE` if there are none.
 #[derive(Clone, Copy)]
@@ -36,10 +35,10 @@ fn routine_in(code: &str) -> &str {
 }
 
 /// The head of the routine that a line is in.
-pub(crate) fn head_at(document: &Document, line: usize) -> Option<Head> {
+pub(crate) fn head_at(text: &str, line: usize) -> Option<Head> {
     let mut head = Head::at(NO_LINE);
-    for (number, text) in document.text.split("\n").enumerate() {
-        let code = code_of(document, text).trim();
+    for (number, line_text) in text.split("\n").enumerate() {
+        let code = code_of(false, line_text).trim();
         if !routine_in(code).is_empty() {
             if number > line {
                 break;
@@ -59,18 +58,18 @@ pub(crate) fn head_at(document: &Document, line: usize) -> Option<Head> {
 }
 
 /// The head of the routine with the name.
-pub(crate) fn head_named(document: &Document, name: &str) -> Option<Head> {
-    let mut line = NO_LINE;
-    for (number, text) in document.text.split("\n").enumerate() {
-        if routine_in(code_of(document, text)) == name {
-            line = number;
+pub(crate) fn head_named(text: &str, name: &str) -> Option<Head> {
+    let mut found = NO_LINE;
+    for (number, line) in text.split("\n").enumerate() {
+        if routine_in(code_of(false, line)) == name {
+            found = number;
             break;
         }
     }
-    if line == NO_LINE {
+    if found == NO_LINE {
         None
     } else {
-        head_at(document, line)
+        head_at(text, found)
     }
 }
 
@@ -102,8 +101,8 @@ pub(crate) fn instruction_in<'d>(line: usize, code: &'d str) -> Option<Span<'d>>
 }
 
 /// The label with this number, counted from 0, of those before the code of a line. Empty if there is none.
-fn label_at(document: &Document, line: usize, number: usize) -> &str {
-    let (front, _word) = parted(code_of(document, document.line(line)));
+fn label_at(text: &str, line: usize, number: usize) -> &str {
+    let (front, _word) = parted(code_of(false, line_of(text, line)));
     let mut count: usize = 0;
     for part in front.split(":") {
         let part = part.trim();
@@ -130,14 +129,14 @@ fn label_count(front: &str) -> usize {
 
 /// The label with this number, counted from 0, among those of the routine that begins at a line after which only unlocks come before RET.
 /// Empty if there is none.
-pub(crate) fn end_label<'d>(document: &'d Document, routine: usize, number: usize) -> &'d str {
+pub(crate) fn end_label(text: &str, routine: usize, number: usize) -> &str {
     // The line of the label, and how many labels come before that line.
     let (mut at, mut before): (usize, usize) = (0, 0);
     // How many labels there are, and after how many of them only unlocks come before RET. Only unlocks have come so far after the others.
     let mut count: usize = 0;
     let mut found: usize = 0;
-    for (line, text) in document.text.split("\n").enumerate() {
-        let (front, word) = parted(code_of(document, text));
+    for (line, line_text) in text.split("\n").enumerate() {
+        let (front, word) = parted(code_of(false, line_text));
         if line > routine {
             let next = count.saturating_add(label_count(front));
             if count <= number && number < next {
@@ -155,7 +154,7 @@ pub(crate) fn end_label<'d>(document: &'d Document, routine: usize, number: usiz
         }
     }
     if number < found {
-        label_at(document, at, number.saturating_sub(before))
+        label_at(text, at, number.saturating_sub(before))
     } else {
         ""
     }

@@ -1,13 +1,13 @@
 //! The hover text of a word and of its line.
 
-use crate::documents::{Document, MOST_BYTES};
+use crate::asked::Asked;
+use crate::documents::{MOST_BYTES, Page};
 use crate::names::word_at;
-use crate::positions::{line_of, put_range, spot_of};
+use crate::positions::{Span, offset_of, put_range};
 use crate::reply::Reply;
 use geos_text::first_line;
 use geos_texts::known_at_lines;
 use geos_topics::topic;
-use serde_json::Value;
 use std::alloc::{AllocError, Global};
 
 /// What is known at a line: the part that `geos explain` prints after the line itself. Empty if nothing is.
@@ -33,12 +33,16 @@ fn note_of<'k>(told: &'k [u8], number: usize, line: &str) -> Option<&'k [u8]> {
 }
 
 /// What is known at a line of an assembly text, counted from 0.
-fn known_at(alloc: Global, document: &Document, line: usize) -> Result<String, AllocError> {
+fn known_at(
+    alloc: Global,
+    document: Page<'_>,
+    line: usize,
+    text: &str,
+) -> Result<String, AllocError> {
     if document.is_source() || document.text.len() > MOST_BYTES {
         return Ok(String::new(alloc));
     }
     let known = known_at_lines(alloc, document.text.as_bytes())?;
-    let text = line_of(&document.text, line);
     let note = note_in(&known, line.saturating_add(1), text);
     String::from_utf8_lossy(alloc, note.trim_ascii())
 }
@@ -49,20 +53,8 @@ fn topic_on(alloc: Global, word: &str) -> Result<&'static str, AllocError> {
     Ok(topic(&upper).unwrap_or(""))
 }
 
-/// `textDocument/hover`: what an instruction does, and what is known before it; `null` if there is nothing to say.
-pub(crate) fn put_hover(
-    alloc: Global,
-    out: &mut Reply,
-    document: &Document,
-    params: &Value,
-) -> Result<(), AllocError> {
-    let spot = spot_of(&document.text, params.get("position").unwrap_or(params));
-    let Some(word) = word_at(spot.line, line_of(&document.text, spot.line), spot.at) else {
-        out.raw("null");
-        return Ok(());
-    };
-    let topic = topic_on(alloc, word.words())?;
-    let known = known_at(alloc, document, spot.line)?;
+/// Writes what an instruction does, and what is known before it; `null` if there is nothing to say.
+fn put_said(out: &mut Reply, word: &Span<'_>, topic: &str, known: &str) -> Result<(), AllocError> {
     if topic.is_empty() && known.is_empty() {
         out.raw("null");
         return Ok(());
@@ -72,9 +64,29 @@ pub(crate) fn put_hover(
     } else {
         "\n\n"
     };
-    let said = format!(in alloc; "{topic}{between}{known}")?;
+    let said = format!(in out.alloc; "{topic}{between}{known}")?;
     out.quoted("{\"contents\":{\"kind\":\"plaintext\",\"value\":", &said);
-    put_range(out, "},\"range\":", &word);
+    put_range(out, "},\"range\":", word);
     out.raw("}");
     Ok(())
+}
+
+/// `textDocument/hover`: what an instruction does, and what is known before it; `null` if there is nothing to say.
+pub(crate) fn put_hover(
+    out: &mut Reply,
+    document: Page<'_>,
+    asked: &Asked<'_>,
+) -> Result<(), AllocError> {
+    let line = document.line(asked.line);
+    match word_at(asked.line, line, offset_of(line, asked.column)) {
+        Some(word) => {
+            let topic = topic_on(out.alloc, word.words())?;
+            let known = known_at(out.alloc, document, asked.line, line)?;
+            put_said(out, &word, topic, &known)
+        }
+        None => {
+            out.raw("null");
+            Ok(())
+        }
+    }
 }

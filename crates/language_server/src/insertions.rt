@@ -80,9 +80,10 @@ const MOST_LABELS: usize = 8;
 pub(crate) fn mends_by_insertion(mender: &mut Mender<'_>, finding: &Finding<'_, '_>) -> bool {
     let document = mender.document;
     let line = finding.span.line;
-    let cure = finding.text("cure");
-    let code = code_of(document, document.line(line));
-    let (Some(head), Some(before)) = (head_at(document, line), instruction_in(line, code)) else {
+    let cure = finding.cure;
+    let text = document.text;
+    let code = code_of(false, document.line(line));
+    let (Some(head), Some(before)) = (head_at(text, line), instruction_in(line, code)) else {
         return false;
     };
     if !cure_has(cure, " L") {
@@ -90,7 +91,7 @@ pub(crate) fn mends_by_insertion(mender: &mut Mender<'_>, finding: &Finding<'_, 
         return cure_has(cure, "") && mender.mends(finding);
     }
     for n in 0..MOST_LABELS {
-        let label = end_label(document, head.routine, n);
+        let label = end_label(text, head.routine, n);
         if label.is_empty() {
             break;
         }

@@ -1,10 +1,9 @@
 //! Edits are offered only if a trial shows that they mend a finding.
 
-use crate::documents::Document;
+use crate::documents::Page;
 use crate::edits::Mend;
-use crate::findings::{Finding, findings_in, number, object_in, text_in};
+use crate::findings::{Finding, Found, findings_in, found_in, lines_in, object_in};
 use crate::reply::Reply;
-use serde_json::Value;
 use std::alloc::{AllocError, Global};
 
 /// The most trials for a request.
@@ -35,17 +34,16 @@ fn bytes_said(cure: &str) -> u64 {
 }
 
 impl Errors {
-    /// Takes an object that `geos explain --json` prints.
-    fn take(&mut self, object: &Value, rule: &str, line: usize) {
-        let refused = text_in(object, "rule");
-        if text_in(object, "kind") != "error" || refused == "V14" {
+    /// Takes what an object that `geos explain --json` prints says.
+    fn take(&mut self, found: &Found<'_>, rule: &str, line: usize) {
+        if found.kind != "error" || found.rule == "V14" {
             return;
         }
         self.count = self.count.saturating_add(1);
-        self.has_faulty = self.has_faulty || refused.is_empty();
-        let is_asked = number(object, "line") == Some(line) && refused == rule;
+        self.has_faulty = self.has_faulty || found.rule.is_empty();
+        let is_asked = found.line == Some(line) && found.rule == rule;
         self.has_asked = self.has_asked || is_asked;
-        self.bytes = self.bytes.max(bytes_said(text_in(object, "cure")))
+        self.bytes = self.bytes.max(bytes_said(found.cure))
     }
 }
 
@@ -57,9 +55,9 @@ fn errors_in(alloc: Global, objects: &[u8], rule: &str, line: usize) -> Errors {
         has_asked: false,
         bytes: 0,
     };
-    for object in objects.split(|byte| *byte == b'\n') {
+    for object in lines_in(objects).split("\n") {
         if let Some(object) = object_in(alloc, object) {
-            errors.take(&object, rule, line)
+            errors.take(&found_in(&object), rule, line)
         }
     }
     errors
@@ -69,7 +67,7 @@ fn errors_in(alloc: Global, objects: &[u8], rule: &str, line: usize) -> Errors {
 #[derive(Drop)]
 pub(crate) struct Mender<'d> {
     alloc: Global,
-    pub(crate) document: &'d Document,
+    pub(crate) document: Page<'d>,
     /// The edits that are tried.
     pub(crate) mend: Mend,
     /// How many errors the document has.
@@ -82,7 +80,7 @@ pub(crate) struct Mender<'d> {
 
 impl<'d> Mender<'d> {
     /// Of a document with these objects.
-    pub(crate) fn new(alloc: Global, document: &'d Document, objects: &[u8]) -> Mender<'d> {
+    pub(crate) fn new(alloc: Global, document: Page<'d>, objects: &[u8]) -> Mender<'d> {
         Mender {
             alloc,
             document,
@@ -93,10 +91,11 @@ impl<'d> Mender<'d> {
         }
     }
 
-    /// The objects about the text after the edits.
-    fn objects(&self) -> Result<Vec<u8>, AllocError> {
-        let text = self.mend.applied(self.alloc, &self.document.text).finish()?;
-        findings_in(self.alloc, &self.document.uri, text)
+    /// The errors of the text after the edits. They are searched for one of a rule at a line.
+    fn errors_after(&self, rule: &str, line: usize) -> Result<Errors, AllocError> {
+        let text = self.mend.applied(self.alloc, self.document.text).finish()?;
+        let objects = findings_in(self.alloc, self.document.uri, text)?;
+        Ok(errors_in(self.alloc, &objects, rule, line))
     }
 
     /// Whether the edits mend the finding: it is gone, there is an image, and fewer errors are left.
@@ -105,17 +104,17 @@ impl<'d> Mender<'d> {
             return false;
         }
         self.left -= 1;
-        let objects = match self.objects() {
-            Ok(objects) => objects,
+        let line = self.mend.line_after(finding.span.line).saturating_add(1);
+        match self.errors_after(finding.rule, line) {
+            Ok(errors) => {
+                self.bytes = errors.bytes;
+                !errors.has_faulty && !errors.has_asked && errors.count < self.errors
+            }
             Err(AllocError) => {
                 self.mend.title.fail();
-                return false;
+                false
             }
-        };
-        let line = self.mend.line_after(finding.span.line).saturating_add(1);
-        let errors = errors_in(self.alloc, &objects, finding.text("rule"), line);
-        self.bytes = errors.bytes;
-        !errors.has_faulty && !errors.has_asked && errors.count < self.errors
+        }
     }
 
     /// Writes an action that makes the edits.

@@ -1,44 +1,46 @@
 //! Labels, routines and other words of texts.
 
-use crate::documents::Document;
 use crate::positions::{Span, line_of};
 use crate::reply::Reply;
-use geos_text::without_comment;
 
 /// Whether the byte may be in a name.
 fn is_of_name(byte: u8) -> bool {
     byte.is_ascii_alphanumeric() || byte == b'_'
 }
 
-/// A line without its comment. In a source, a comment begins with `//`.
-pub(crate) fn code_of<'t>(document: &Document, line: &'t str) -> &'t str {
-    let end = if document.is_source() {
-        line.find("//").unwrap_or(line.len())
-    } else {
-        without_comment(line.as_bytes()).len()
-    };
-    line.get(..end).unwrap_or(line)
+/// A line without its comment, which begins with `//` in a source, and with `;` in an assembly text.
+pub(crate) fn code_of(is_source: bool, line: &str) -> &str {
+    match line.split_once(if is_source { "//" } else { ";" }) {
+        Some((code, _comment)) => code,
+        None => line,
+    }
 }
 
 /// The word of a line with a byte at this offset or before it.
 pub(crate) fn word_at<'t>(line: usize, text: &'t str, at: usize) -> Option<Span<'t>> {
-    let at = at.min(text.len());
-    let (before, after) = text.as_bytes().split_at(at);
-    let start = before
-        .iter()
-        .rposition(|byte| !is_of_name(*byte))
-        .map_or(0, |last| last + 1);
-    let end = after
-        .iter()
-        .position(|byte| !is_of_name(*byte))
-        .map_or(text.len(), |first| at + first);
-    let span = Span {
-        line,
-        text,
-        start,
-        end,
-    };
-    if start < end { Some(span) } else { None }
+    // Where the word begins that the bytes so far end with.
+    let mut start: usize = 0;
+    let mut end: usize = 0;
+    for byte in text.bytes() {
+        let is_of_word = is_of_name(byte);
+        if !is_of_word && end >= at {
+            break;
+        }
+        end = end.saturating_add(1);
+        if !is_of_word {
+            start = end;
+        }
+    }
+    if start < end {
+        Some(Span {
+            line,
+            text,
+            start,
+            end,
+        })
+    } else {
+        None
+    }
 }
 
 impl<'t> Span<'t> {
@@ -66,9 +68,14 @@ pub(crate) struct NameUse<'t> {
 
 /// The next word of a line from an offset on.
 pub(crate) fn next_word<'t>(line: usize, code: &'t str, from: usize) -> Option<Span<'t>> {
-    let rest = code.as_bytes().get(from..)?;
-    let first = rest.iter().position(|byte| is_of_name(*byte))?;
-    word_at(line, code, from + first)
+    let mut first = from;
+    for byte in code.get(from..)?.bytes() {
+        if is_of_name(byte) {
+            return word_at(line, code, first);
+        }
+        first = first.saturating_add(1);
+    }
+    None
 }
 
 /// The names of a line: the labels before its instruction, the name of a routine after `routine` or `CALL`, and its last word
@@ -127,12 +134,12 @@ impl<'t> Names<'t> {
 }
 
 /// The names of an assembly text, in its order. If an allocation is refused, that is noted, and some are left out.
-pub(crate) fn names_in<'t>(out: &mut Reply, document: &'t Document) -> Vec<NameUse<'t>> {
+pub(crate) fn names_in<'t>(out: &mut Reply, text: &'t str) -> Vec<NameUse<'t>> {
     let mut found = Vec::new(out.alloc);
-    for (line, text) in document.text.split("\n").enumerate() {
-        let mut names = Names::of(line, code_of(document, text));
+    for (number, line) in text.split("\n").enumerate() {
+        let mut names = Names::of(number, code_of(false, line));
         // Each word has at least a byte.
-        for _ in 0..text.len() {
+        for _ in 0..line.len() {
             match names.next_word() {
                 Some(Some(name)) if found.push(name).is_err() => out.fail(),
                 Some(_) => {}
@@ -144,10 +151,10 @@ pub(crate) fn names_in<'t>(out: &mut Reply, document: &'t Document) -> Vec<NameU
 }
 
 /// The name at a place of an assembly text.
-pub(crate) fn name_at<'t>(document: &'t Document, line: usize, at: usize) -> Option<NameUse<'t>> {
-    let text = line_of(&document.text, line);
-    let mut names = Names::of(line, code_of(document, text));
-    for _ in 0..text.len() {
+pub(crate) fn name_at(text: &str, number: usize, at: usize) -> Option<NameUse<'_>> {
+    let line = line_of(text, number);
+    let mut names = Names::of(number, code_of(false, line));
+    for _ in 0..line.len() {
         match names.next_word()? {
             Some(name) if name.span.start <= at && at <= name.span.end => return Some(name),
             _ => {}

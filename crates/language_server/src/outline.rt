@@ -1,20 +1,16 @@
 //! Definitions and uses of names, and the parts of a document.
 
-use crate::documents::Document;
+use crate::asked::Asked;
+use crate::documents::Page;
 use crate::names::{NameKind, NameUse, code_of, name_at, names_in, word_at};
-use crate::positions::{Span, line_of, put_all, put_range, spot_of};
+use crate::positions::{Span, offset_of, put_all, put_range};
 use crate::reply::Reply;
 use geos_opcodes::Opcode;
-use serde_json::Value;
 
-/// The position of a request.
-fn position_of(params: &Value) -> &Value {
-    params.get("position").unwrap_or(params)
-}
-
-/// Writes a place in a document.
-fn put_location(out: &mut Reply, document: &Document, span: &Span<'_>) {
-    out.quoted("{\"uri\":", &document.uri);
+/// Writes a place in the document with the name.
+fn put_location(out: &mut Reply, uri: &str, span: &Span<'_>) {
+    out.item();
+    out.quoted("{\"uri\":", uri);
     put_range(out, ",\"range\":", span);
     out.raw("}")
 }
@@ -25,40 +21,34 @@ fn are_same(a: &NameUse<'_>, b: &NameUse<'_>) -> bool {
 }
 
 /// The name at the position of a request.
-fn asked<'t>(document: &'t Document, params: &Value) -> Option<NameUse<'t>> {
-    let spot = spot_of(&document.text, position_of(params));
-    name_at(document, spot.line, spot.at)
+fn asked_name<'t>(document: Page<'t>, asked: &Asked<'_>) -> Option<NameUse<'t>> {
+    let at = offset_of(document.line(asked.line), asked.column);
+    name_at(document.text, asked.line, at)
 }
 
-/// Writes each place where the name at the position is, or only where it is defined.
-fn put_places(out: &mut Reply, document: &Document, params: &Value, only_defined: bool) {
-    out.begin_items("");
-    if let Some(name) = asked(document, params) {
-        for found in &names_in(out, document) {
+/// Writes each place in a text where the name at the position is, or only where it is defined.
+fn put_places(out: &mut Reply, document: Page<'_>, asked: &Asked<'_>, only_defined: bool) {
+    if let Some(name) = asked_name(document, asked) {
+        for found in &names_in(out, document.text) {
             if are_same(&name, found) && (found.defines || !only_defined) {
-                out.item();
-                put_location(out, document, &found.span)
+                put_location(out, document.uri, &found.span)
             }
         }
     }
-    out.raw("]")
 }
 
 /// Writes where the function is defined that a source names at the position.
-fn put_function(out: &mut Reply, document: &Document, params: &Value) {
-    let spot = spot_of(&document.text, position_of(params));
-    let asked = word_at(spot.line, line_of(&document.text, spot.line), spot.at);
-    out.begin_items("");
-    for (line, text) in document.text.split("\n").enumerate() {
-        match (function_of(line, code_of(document, text)), &asked) {
-            (Some(found), Some(asked)) if found.words() == asked.words() => {
-                out.item();
-                put_location(out, document, &found)
+fn put_function(out: &mut Reply, document: Page<'_>, asked: &Asked<'_>) {
+    let line = document.line(asked.line);
+    if let Some(name) = word_at(asked.line, line, offset_of(line, asked.column)) {
+        for (number, line) in document.text.split("\n").enumerate() {
+            if let Some(found) = function_of(number, code_of(true, line))
+                && found.words() == name.words()
+            {
+                put_location(out, document.uri, &found)
             }
-            _ => {}
         }
     }
-    out.raw("]")
 }
 
 /// The name of the function that a line of a source defines, if it defines one.
@@ -75,21 +65,23 @@ fn function_of(line: usize, code: &str) -> Option<Span<'_>> {
 }
 
 /// `textDocument/definition`
-pub(crate) fn put_definition(out: &mut Reply, document: &Document, params: &Value) {
+pub(crate) fn put_definition(out: &mut Reply, document: Page<'_>, asked: &Asked<'_>) {
+    out.begin_items("");
     if document.is_source() {
-        put_function(out, document, params)
+        put_function(out, document, asked)
     } else {
-        put_places(out, document, params, true)
+        put_places(out, document, asked, true)
     }
+    out.raw("]")
 }
 
 /// `textDocument/references`. None in a source.
-pub(crate) fn put_references(out: &mut Reply, document: &Document, params: &Value) {
-    if document.is_source() {
-        out.raw("[]")
-    } else {
-        put_places(out, document, params, false)
+pub(crate) fn put_references(out: &mut Reply, document: Page<'_>, asked: &Asked<'_>) {
+    out.begin_items("");
+    if !document.is_source() {
+        put_places(out, document, asked, false)
     }
+    out.raw("]")
 }
 
 /// Whether a label or a routine may have the name.
@@ -98,23 +90,20 @@ fn is_name(name: &str) -> bool {
         [first, ..] => first.is_ascii_alphabetic(),
         [] => false,
     };
-    let has_only = name
-        .bytes()
-        .all(|byte| byte.is_ascii_alphanumeric() || byte == b'_');
-    starts_with_letter && has_only && name.len() <= 16
+    for byte in name.bytes() {
+        if !byte.is_ascii_alphanumeric() && byte != b'_' {
+            return false;
+        }
+    }
+    starts_with_letter && name.len() <= 16
 }
 
-/// `textDocument/rename`: an edit for each use of the name; `null` in a source, or if nothing may have the new name.
-pub(crate) fn put_rename(out: &mut Reply, document: &Document, params: &Value) {
-    let new = params.get("newName").and_then(Value::as_str).unwrap_or("");
-    let name = match asked(document, params) {
-        Some(name) if is_name(new) && !document.is_source() => name,
-        _ => return out.raw("null"),
-    };
-    out.quoted("{\"changes\":{", &document.uri);
+/// Writes an edit for each use of a name.
+fn put_renamed(out: &mut Reply, document: Page<'_>, name: &NameUse<'_>, new: &str) {
+    out.quoted("{\"changes\":{", document.uri);
     out.begin_items(":");
-    for found in &names_in(out, document) {
-        if are_same(&name, found) {
+    for found in &names_in(out, document.text) {
+        if are_same(name, found) {
             out.item();
             put_range(out, "{\"range\":", &found.span);
             out.quoted(",\"newText\":", new);
@@ -122,6 +111,16 @@ pub(crate) fn put_rename(out: &mut Reply, document: &Document, params: &Value) {
         }
     }
     out.raw("]}}")
+}
+
+/// `textDocument/rename`: an edit for each use of the name; `null` in a source, or if nothing may have the new name.
+pub(crate) fn put_rename(out: &mut Reply, document: Page<'_>, asked: &Asked<'_>) {
+    match asked_name(document, asked) {
+        Some(name) if is_name(asked.new_name) && !document.is_source() => {
+            put_renamed(out, document, &name, asked.new_name)
+        }
+        _ => out.raw("null"),
+    }
 }
 
 /// Writes an entry of the outline. The kinds are the protocol's: a function is 12, a key 20.
@@ -135,26 +134,36 @@ fn put_symbol(out: &mut Reply, kind: u64, span: &Span<'_>) {
 }
 
 /// `textDocument/documentSymbol`: the routines and labels of a text, the functions of a source.
-pub(crate) fn put_symbols(out: &mut Reply, document: &Document) {
+pub(crate) fn put_symbols(out: &mut Reply, document: Page<'_>) {
     out.begin_items("");
     if document.is_source() {
-        for (line, text) in document.text.split("\n").enumerate() {
-            if let Some(span) = function_of(line, code_of(document, text)) {
-                put_symbol(out, 12, &span)
-            }
-        }
+        put_functions(out, document.text)
     } else {
-        for name in &names_in(out, document) {
-            if name.defines {
-                let kind = match name.kind {
-                    NameKind::Routine => 12,
-                    NameKind::Label => 20,
-                };
-                put_symbol(out, kind, &name.span)
-            }
-        }
+        put_defined(out, document.text)
     }
     out.raw("]")
+}
+
+/// Writes the functions of a source.
+fn put_functions(out: &mut Reply, text: &str) {
+    for (number, line) in text.split("\n").enumerate() {
+        if let Some(span) = function_of(number, code_of(true, line)) {
+            put_symbol(out, 12, &span)
+        }
+    }
+}
+
+/// Writes the routines and labels of a text.
+fn put_defined(out: &mut Reply, text: &str) {
+    for name in &names_in(out, text) {
+        if name.defines {
+            let kind = match name.kind {
+                NameKind::Routine => 12,
+                NameKind::Label => 20,
+            };
+            put_symbol(out, kind, &name.span)
+        }
+    }
 }
 
 /// Writes a word that may be typed. The kinds are the protocol's.
@@ -165,31 +174,39 @@ fn put_word(out: &mut Reply, word: &str, kind: u64) {
     out.raw("}")
 }
 
+/// Writes the words of a text beside its instructions.
+fn put_own_words(out: &mut Reply, text: &str) {
+    for word in ["routine", "public", "budget", "in", "out"] {
+        put_word(out, word, 14)
+    }
+    for name in &names_in(out, text) {
+        if name.defines {
+            put_word(out, name.span.words(), 6)
+        }
+    }
+}
+
 /// `textDocument/completion`: the instructions, or in a source the calls; the labels and routines of a text.
-pub(crate) fn put_completion(out: &mut Reply, document: &Document) {
+pub(crate) fn put_completion(out: &mut Reply, document: Page<'_>) {
     out.begin_items("");
-    for opcode in (1..=u8::MAX).map_while(Opcode::from_code) {
-        put_word(out, opcode.word(), 14)
+    for code in 1..=u8::MAX {
+        match Opcode::from_code(code) {
+            Some(opcode) => put_word(out, opcode.word(), 14),
+            None => break,
+        }
     }
     if !document.is_source() {
-        for word in ["routine", "public", "budget", "in", "out"] {
-            put_word(out, word, 14)
-        }
-        for name in &names_in(out, document) {
-            if name.defines {
-                put_word(out, name.span.words(), 6)
-            }
-        }
+        put_own_words(out, document.text)
     }
     out.raw("]")
 }
 
 /// `textDocument/formatting`: an edit of the whole text, whose words come in columns; `null` of a source.
-pub(crate) fn put_formatting(out: &mut Reply, document: &Document, formatted: Option<&str>) {
+pub(crate) fn put_formatting(out: &mut Reply, text: &str, formatted: Option<String>) {
     match formatted {
         Some(new) => {
-            put_all(out, "[{\"range\":", &document.text);
-            out.quoted(",\"newText\":", new);
+            put_all(out, "[{\"range\":", text);
+            out.quoted(",\"newText\":", &new);
             out.raw("}]")
         }
         None => out.raw("null"),

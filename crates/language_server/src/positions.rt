@@ -1,14 +1,6 @@
 //! Positions in texts. The protocol counts lines from 0, and columns in units of UTF-16.
 
 use crate::reply::Reply;
-use serde_json::Value;
-
-/// A place in a text: the number of its line, counted from 0, and its offset in bytes from the start of the line.
-#[derive(Clone, Copy)]
-pub(crate) struct Spot {
-    pub(crate) line: usize,
-    pub(crate) at: usize,
-}
 
 /// A part of a line.
 #[derive(Clone, Copy)]
@@ -24,47 +16,45 @@ pub(crate) struct Span<'t> {
 
 /// The line with this number, without its end. Empty after the last line.
 pub(crate) fn line_of(text: &str, line: usize) -> &str {
-    let found = text.split("\n").nth(line).unwrap_or("");
-    found.strip_suffix("\r").unwrap_or(found)
+    for (number, found) in text.split("\n").enumerate() {
+        if number == line {
+            return found.strip_suffix("\r").unwrap_or(found);
+        }
+    }
+    ""
+}
+
+/// How many units of UTF-16 the character has that a byte of UTF-8 begins; 0 if it begins none.
+fn units_of(byte: u8) -> u64 {
+    match byte {
+        0x80..=0xbf => 0,
+        0xf0..=0xff => 2,
+        _ => 1,
+    }
 }
 
 /// The offset in bytes of a column of a line, at most the line's length.
-fn offset_of(line: &str, column: u64) -> usize {
+pub(crate) fn offset_of(line: &str, column: u64) -> usize {
     let mut left = column;
     let mut at: usize = 0;
-    for character in line.chars() {
-        let units = character.len_utf16() as u64;
+    for byte in line.bytes() {
+        let units = units_of(byte);
         if left < units {
             break;
         }
         left -= units;
-        at = at.saturating_add(character.len_utf8());
+        at = at.saturating_add(1);
     }
     at
 }
 
 /// The column of an offset in bytes.
 fn column_of(line: &str, at: usize) -> u64 {
-    let before = line.get(..at.min(line.len())).unwrap_or(line);
     let mut column: u64 = 0;
-    for character in before.chars() {
-        column = column.saturating_add(character.len_utf16() as u64);
+    for byte in line.get(..at.min(line.len())).unwrap_or(line).bytes() {
+        column = column.saturating_add(units_of(byte));
     }
     column
-}
-
-/// The number of a member, 0 if it is none.
-fn number_in(value: &Value, member: &str) -> u64 {
-    value.get(member).and_then(Value::as_u64).unwrap_or(0)
-}
-
-/// The place that the protocol's position names in a text.
-pub(crate) fn spot_of(text: &str, position: &Value) -> Spot {
-    let line = number_in(position, "line") as usize;
-    Spot {
-        line,
-        at: offset_of(line_of(text, line), number_in(position, "character")),
-    }
 }
 
 /// Writes a position.
@@ -90,8 +80,14 @@ pub(crate) fn put_range(out: &mut Reply, part: &str, span: &Span<'_>) {
 
 /// Writes the range of a whole text.
 pub(crate) fn put_all(out: &mut Reply, part: &str, text: &str) {
+    let mut lines: usize = 1;
+    for byte in text.bytes() {
+        if byte == b'\n' {
+            lines = lines.saturating_add(1);
+        }
+    }
     out.raw(part);
     put_position(out, "{\"start\":", 0, 0);
-    put_position(out, ",\"end\":", text.split("\n").count(), 0);
+    put_position(out, ",\"end\":", lines, 0);
     out.raw("}")
 }

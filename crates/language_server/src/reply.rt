@@ -1,7 +1,6 @@
 //! Texts that are written part by part, mostly JSON.
 
 use sentence_text::Text;
-use serde_json::Value;
 use std::alloc::{AllocError, Global};
 
 /// The digits of hexadecimal numbers.
@@ -96,15 +95,6 @@ impl Reply {
     /// The same of a text that is a string.
     pub(crate) fn quoted(&mut self, json: &str, text: &str) {
         self.quoted_bytes(json, text.as_bytes())
-    }
-
-    /// A value after a part: the id of a request.
-    pub(crate) fn value(&mut self, part: &str, value: &Value) {
-        self.raw(part);
-        match value.to_string(self.alloc) {
-            Ok(text) => self.raw(&text),
-            Err(AllocError) => self.fail(),
-        }
     }
 
     /// Begins an array.

@@ -1,6 +1,6 @@
 //! Items of the lines `in` and `out` of routines.
 
-use crate::documents::Document;
+use crate::documents::Page;
 use crate::edits::{Edit, Mend, NO_LINE};
 use crate::findings::{Finding, code_span};
 use crate::heads::{Head, head_at, head_named};
@@ -158,7 +158,7 @@ impl<'m> Wish<'m> {
     }
 
     /// Writes the edit of the line `in`, after the line `routine` if there is none. A line `out` that is missing follows.
-    fn put_entry(&self, edit: &mut Edit, document: &Document, head: &Head) {
+    fn put_entry(&self, edit: &mut Edit, document: Page<'_>, head: &Head) {
         if head.enters == NO_LINE {
             let end = document.line(head.routine).len();
             edit.begin(head.routine, end, end);
@@ -177,7 +177,7 @@ impl<'m> Wish<'m> {
     }
 
     /// Writes the edits of the lines of a routine.
-    fn put(&self, mend: &mut Mend, document: &Document, head: &Head) {
+    fn put(&self, mend: &mut Mend, document: Page<'_>, head: &Head) {
         mend.begin("Say ");
         self.put_item(&mut mend.title, self.items);
         mend.title.raw(if self.both {
@@ -265,11 +265,24 @@ fn mends_in_turn(
 fn mends_by_wish(mender: &mut Mender<'_>, finding: &Finding<'_, '_>, wish: Wish<'_>) -> bool {
     let document = mender.document;
     let found = if wish.name.is_empty() {
-        head_at(document, finding.span.line)
+        head_at(document.text, finding.span.line)
     } else {
-        head_named(document, wish.name)
+        head_named(document.text, wish.name)
     };
-    let Some(head) = found else { return false };
+    match found {
+        Some(head) => mends_in_ways(mender, finding, &head, wish),
+        None => false,
+    }
+}
+
+/// The same of the routine with this head.
+fn mends_in_ways(
+    mender: &mut Mender<'_>,
+    finding: &Finding<'_, '_>,
+    head: &Head,
+    wish: Wish<'_>,
+) -> bool {
+    let document = mender.document;
     let routine = code_span(document, head.routine).words();
     let entry = code_span(document, head.enters).words();
     for (held, kind) in ways_of(wish.items, routine) {
@@ -281,11 +294,11 @@ fn mends_by_wish(mender: &mut Mender<'_>, finding: &Finding<'_, '_>, wish: Wish<
                 both: wish.both && kind.is_empty(),
                 ..wish
             };
-            if mends_in_turn(mender, finding, &head, way) {
+            if mends_in_turn(mender, finding, head, way) {
                 return true;
             }
             way.bytes = mender.bytes;
-            if has_bytes && way.bytes > 0 && mends_in_turn(mender, finding, &head, way) {
+            if has_bytes && way.bytes > 0 && mends_in_turn(mender, finding, head, way) {
                 return true;
             }
         }
@@ -296,17 +309,17 @@ fn mends_by_wish(mender: &mut Mender<'_>, finding: &Finding<'_, '_>, wish: Wish<
 /// Writes the actions by which lines `in` and `out` mend a finding, at most one for each wish of its cure, and one for the items that it says
 /// are required.
 pub(crate) fn put_rows(out: &mut Reply, mender: &mut Mender<'_>, finding: &Finding<'_, '_>) {
-    for said in finding.text("cure").split("say ") {
+    for said in finding.cure.split("say ") {
         if let Some(wish) = wish_in(said)
             && mends_by_wish(mender, finding, wish)
         {
             mender.put(out, finding)
         }
     }
-    let message = finding.text("message");
-    let required = message
+    let required = finding
+        .message
         .split_once(" is required")
-        .or(message.split_once(" are required"));
+        .or(finding.message.split_once(" are required"));
     if let Some((items, _)) = required
         && are_items(items)
         && mends_by_wish(mender, finding, Wish::of(items))

@@ -1,6 +1,7 @@
 //! The server: it reads messages, and answers each before it reads the next.
 
 use crate::answers::put_answer;
+use crate::asked::{Asked, asked_in};
 use crate::documents::{Document, Documents};
 use crate::findings::put_diagnostics;
 use crate::frames::{Incoming, read_message};
@@ -60,25 +61,17 @@ const NO_JSON: &str = "{\"code\":-32700,\"message\":\"the message is no JSON\"}"
 
 const NO_METHOD: &str = "{\"code\":-32601,\"message\":\"the method is not served\"}";
 
-/// A text of a message.
-fn text_at<'v>(message: &'v Value, path: &str) -> &'v str {
-    message.pointer(path).and_then(Value::as_str).unwrap_or("")
+/// Writes the start of the answer to a message with this id.
+fn put_id(out: &mut Reply, id: &Value) {
+    out.raw("{\"jsonrpc\":\"2.0\",\"id\":");
+    match id.to_string(out.alloc) {
+        Ok(text) => out.raw(&text),
+        Err(AllocError) => out.fail(),
+    }
 }
 
-/// The text that a document has after a change: that of the last change, since each has all of it.
-fn changed_text(message: &Value) -> Option<&str> {
-    let changes = message.pointer("/params/contentChanges")?.as_array()?;
-    changes.last()?.get("text")?.as_str()
-}
-
-/// The name of the document that a message is about.
-fn uri_in(message: &Value) -> &str {
-    text_at(message, "/params/textDocument/uri")
-}
-
-/// Writes an answer to a message without an id that is known.
-fn put_error(out: &mut Reply, id: &Value, error: &str) {
-    out.value("{\"jsonrpc\":\"2.0\",\"id\":", id);
+/// Writes the rest of the answer to a message that is refused.
+fn put_error(out: &mut Reply, error: &str) {
     out.raw(",\"error\":");
     out.raw(error);
     out.raw("}")
@@ -106,51 +99,43 @@ impl Server {
     }
 
     /// Writes the result of a request.
-    fn put_result(&mut self, out: &mut Reply, method: Method, message: &Value) {
-        match (method, self.documents.find(uri_in(message))) {
+    fn put_result(&mut self, out: &mut Reply, method: Method, asked: &Asked<'_>) {
+        match (method, self.documents.find(asked.uri)) {
             (Method::Initialize, _) => out.raw(CAPABILITIES),
             (Method::Shutdown, _) => {
                 self.is_shut = true;
                 out.raw("null")
             }
-            (_, Some(document)) => {
-                let params = message.get("params").unwrap_or(message);
-                put_answer(self.alloc, out, method, document, params)
-            }
+            (_, Some(document)) => put_answer(out, method, document, asked),
             (_, None) => out.raw("null"),
         }
     }
 
-    /// Writes the answer to a request.
-    fn answer(&mut self, out: &mut Reply, id: &Value, message: &Value) {
-        match method_of(text_at(message, "/method")) {
+    /// Writes the answer to a request, after its id.
+    fn answer(&mut self, out: &mut Reply, asked: &Asked<'_>) {
+        match method_of(asked.method) {
             Some(method) => {
-                out.value("{\"jsonrpc\":\"2.0\",\"id\":", id);
                 out.raw(",\"result\":");
-                self.put_result(out, method, message);
+                self.put_result(out, method, asked);
                 out.raw("}")
             }
-            None => put_error(out, id, NO_METHOD),
+            None => put_error(out, NO_METHOD),
         }
     }
 
     /// Takes a notification, and writes what is found in the document that it is about. One that is not known is ignored.
-    fn note(&mut self, out: &mut Reply, message: &Value) -> Result<(), AllocError> {
-        let uri = uri_in(message);
-        match method_of(text_at(message, "/method")) {
-            Some(Method::Open) => self.keep(uri, text_at(message, "/params/textDocument/text"))?,
-            Some(Method::Change) => match changed_text(message) {
-                Some(text) => self.keep(uri, text)?,
-                None => return Ok(()),
-            },
-            Some(Method::Close) => self.documents.close(uri),
-            Some(Method::Exit) => {
+    fn note(&mut self, out: &mut Reply, asked: &Asked<'_>) -> Result<(), AllocError> {
+        match (method_of(asked.method), asked.changed) {
+            (Some(Method::Open), _) => self.keep(asked.uri, asked.opened)?,
+            (Some(Method::Change), Some(text)) => self.keep(asked.uri, text)?,
+            (Some(Method::Close), _) => self.documents.close(asked.uri),
+            (Some(Method::Exit), _) => {
                 self.is_over = true;
                 return Ok(());
             }
             _ => return Ok(()),
         }
-        self.put_published(out, uri);
+        self.put_published(out, asked.uri);
         Ok(())
     }
 
@@ -159,11 +144,17 @@ impl Server {
         let mut out = Reply::new(self.alloc);
         match Value::from_slice(self.alloc, body) {
             Ok(message) => match message.get("id") {
-                Some(id) => self.answer(&mut out, id, &message),
-                None => self.note(&mut out, &message)?,
+                Some(id) => {
+                    put_id(&mut out, id);
+                    self.answer(&mut out, &asked_in(&message))
+                }
+                None => self.note(&mut out, &asked_in(&message))?,
             },
             Err(error) if error.is_memory() => return Err(AllocError),
-            Err(_) => put_error(&mut out, &Value::Null, NO_JSON),
+            Err(_) => {
+                put_id(&mut out, &Value::Null);
+                put_error(&mut out, NO_JSON)
+            }
         }
         out.finish()
     }
@@ -182,6 +173,20 @@ fn send<W: Write>(alloc: Global, output: &mut W, body: &[u8]) -> Result<(), Serv
     Ok(())
 }
 
+/// Takes the next message, and writes what is answered. Whether another one may follow.
+fn serve_next<R: BufRead + Drop, W: Write>(
+    server: &mut Server,
+    input: &mut R,
+    output: &mut W,
+) -> Result<bool, ServeFault> {
+    match read_message(server.alloc, input)? {
+        Incoming::Message(body) => send(server.alloc, output, &server.take(&body)?)?,
+        Incoming::End => return Ok(false),
+        Incoming::Malformed => return Err(ServeFault::Malformed),
+    }
+    Ok(!server.is_over)
+}
+
 /// Serves an editor until it says `exit` or closes the stream. Whether it asked for the end before, by `shutdown`.
 pub fn serve<R: BufRead + Drop, W: Write>(
     alloc: Global,
@@ -195,12 +200,7 @@ pub fn serve<R: BufRead + Drop, W: Write>(
         is_over: false,
     };
     for _ in 0..u64::MAX {
-        match read_message(alloc, input)? {
-            Incoming::Message(body) => send(alloc, output, &server.take(&body)?)?,
-            Incoming::End => break,
-            Incoming::Malformed => return Err(ServeFault::Malformed),
-        }
-        if server.is_over {
+        if !serve_next(&mut server, input, output)? {
             break;
         }
     }
