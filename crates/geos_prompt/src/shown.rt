@@ -3,8 +3,8 @@
 ghost use Rattle.std.specs.Prelude.{◌≡◌, true};
 ghost use Rattle.script_commands.specs.Lines.{may_ask};
 
+use crate::record::Record;
 use crate::reply::{Reply, joined};
-use crate::session::Session;
 use geos_cli::{Unwatched, trace_lent};
 use geos_dump::{Detail, Side, View, dump, map, read_areas};
 use geos_image::Image;
@@ -91,7 +91,7 @@ fn put_steps(
     Ok(())
 }
 
-impl Session<'_, '_> {
+impl Record<'_, '_> {
     /// The blocks of the VM file after an `update`, printed as `geos dump` prints what is in the view, or drawn as by `geos map` without one.
     /// The line of the refusal if the `update` is refused. `None` if there is no memory.
     pub(crate) fn picture(&self, alloc: Global, view: Option<View>) -> Option<Vec<u8>> {

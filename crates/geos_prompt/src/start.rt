@@ -5,8 +5,11 @@ ghost use Rattle.geos_shell.specs.Limits.{IsRegion};
 use crate::fault::PromptFault;
 use crate::journal::open_journal;
 use crate::past::Past;
+use crate::record::Record;
+use crate::reply::Stop;
 use crate::running::kernel_on;
 use crate::session::Session;
+use crate::voice::Voice;
 use geos_cli::ScriptFault;
 use geos_files::{FileFault, Locked, opened, wait_for};
 use geos_kernel::{Kernel, kernel_in_memory};
@@ -15,7 +18,7 @@ use geos_shell::{
     keep_from_output, tell,
 };
 use geos_texts::Runnable;
-use geos_verify::{Checked, check};
+use geos_verify::Checked;
 use std::alloc::Global;
 use std::fs::File;
 use vm_file::{Device, Disk, FileDevice, MemoryDevice, OpenError};
@@ -39,14 +42,6 @@ pub struct Place<'a> {
 pub(crate) struct HeldFile<'a> {
     pub(crate) kernel: Kernel<FileDevice>,
     pub(crate) lock: FileLock<'a>,
-}
-
-/// The image of routines, if the verifier accepts it.
-fn accepted(alloc: Global, image: &[u8]) -> Result<Checked, ScriptFault> {
-    match check(geos_image::read(alloc, image)?) {
-        Ok(checked) => Ok(checked),
-        Err((_image, reject)) => Err(ScriptFault::from(reject)),
-    }
 }
 
 /// The bytes of the VM file with the path, which a device holds.
@@ -134,19 +129,24 @@ fn begun<'s, 'a>(
         return Err(PromptFault::Session(ScriptFault::Memory));
     };
     Ok(Session {
-        routines,
-        checked,
+        record: Record {
+            routines,
+            checked,
+            region: place.region,
+            start,
+            past: Past::new(rt.alloc()),
+        },
         place: *place,
-        reports,
-        start,
+        voice: Voice {
+            reports,
+            number: 0,
+            is_mute: true,
+            has_bad: false,
+        },
         last,
-        past: Past::new(rt.alloc()),
         kernel,
         journal: None,
         file,
-        number: 0,
-        is_mute: true,
-        has_bad: false,
     })
 }
 
@@ -154,7 +154,7 @@ fn begun<'s, 'a>(
 /// into.
 fn journal_of<'a>(
     rt: &HostRuntime,
-    routines: &Runnable<'a>,
+    image: &'a str,
     place: &Place<'a>,
 ) -> Result<(Option<File>, Vec<u8>), PromptFault<'a>> {
     let Some(path) = place.journal else {
@@ -162,7 +162,7 @@ fn journal_of<'a>(
     };
     keep_from_output(rt, path)?;
     if are_one_file_read(rt, path, STANDARD)
-        || are_one_file_read(rt, path, routines.path)
+        || are_one_file_read(rt, path, image)
         || are_one_file_read(rt, path, place.file.unwrap_or(STANDARD))
     {
         return Err(PromptFault::Stream(StreamFault::Write(path, Reason::IN_USE)));
@@ -171,37 +171,57 @@ fn journal_of<'a>(
     Ok((Some(journal), lines))
 }
 
+impl<'a> Place<'a> {
+    /// The fault of a session that ends early.
+    pub(crate) fn fault_of(&self, stop: Stop) -> PromptFault<'a> {
+        match stop {
+            Stop::Memory => PromptFault::Session(ScriptFault::Memory),
+            Stop::TooLong => PromptFault::Session(ScriptFault::TooLong),
+            Stop::Journal => PromptFault::Stream(StreamFault::Write(
+                self.journal.unwrap_or(STANDARD),
+                Reason::OTHER,
+            )),
+            Stop::NotTaken => PromptFault::NotTaken(self.file.unwrap_or(STANDARD)),
+        }
+    }
+}
+
 impl<'a> Session<'_, 'a> {
     /// Opens the journal, if one is required, and carries out its lines.
     fn take_up(&mut self, rt: &HostRuntime) -> Result<(), PromptFault<'a>> {
-        let (journal, lines) = journal_of(rt, self.routines, &self.place)?;
+        let (journal, lines) = journal_of(rt, self.record.routines.path, &self.place)?;
         self.resume(rt, &lines)?;
         self.journal = journal;
-        self.is_mute = false;
-        self.has_bad = false;
+        self.voice.is_mute = false;
+        self.voice.has_bad = false;
         Ok(())
     }
+}
 
-    /// Reports the changed blocks of the VM file that no commit has written, as a diagnostic. What is lost in memory is not reported.
-    fn tell_of_lost(&self, rt: &HostRuntime) {
-        let Some(path) = self.place.file else {
-            return;
-        };
-        let mut changed: u16 = 0;
-        for handle in 1..=MOST_HANDLES {
-            if self.kernel.marked(handle) {
-                changed = changed.saturating_add(1);
-            }
+/// How many blocks of the VM file are changed.
+fn count_changed(kernel: &Kernel<MemoryDevice>) -> u16 {
+    let mut changed: u16 = 0;
+    for handle in 1..=MOST_HANDLES {
+        if kernel.marked(handle) {
+            changed = changed.saturating_add(1);
         }
-        if changed == 0 || !self.reports.diagnostics {
-            return;
-        }
-        let path = Named(path);
-        if let Ok(note) = format!(in rt.alloc();
-            "{path}: note: changed blocks that are not committed: {changed}; commit them by update or save\n"
-        ) {
-            tell(rt, self.reports, note.as_bytes());
-        }
+    }
+    changed
+}
+
+/// Reports the changed blocks of the VM file with the path that no commit has written, as a diagnostic. What is lost in memory is not reported.
+fn tell_of_lost(rt: &HostRuntime, reports: Reports, file: Option<&str>, changed: u16) {
+    let Some(path) = file else {
+        return;
+    };
+    if changed == 0 || !reports.diagnostics {
+        return;
+    }
+    let path = Named(path);
+    if let Ok(note) = format!(in rt.alloc();
+        "{path}: note: changed blocks that are not committed: {changed}; commit them by update or save\n"
+    ) {
+        tell(rt, reports, note.as_bytes());
     }
 }
 
@@ -217,13 +237,13 @@ pub fn shell<'a>(
     requires { IsRegion place.now.region }
 {
     keep_from_output(rt, STANDARD)?;
-    let checked = match accepted(rt.alloc(), &routines.image) {
+    let checked = match routines.checked(rt.alloc()) {
         Ok(checked) => checked,
         Err(fault) => return Err(PromptFault::Session(fault)),
     };
     let mut session = begun(rt, reports, routines, &checked, place)?;
     session.take_up(rt)?;
     session.go_on(rt)?;
-    session.tell_of_lost(rt);
-    Ok(!session.has_bad)
+    tell_of_lost(rt, reports, place.file, count_changed(&session.kernel));
+    Ok(!session.voice.has_bad)
 }

@@ -3,12 +3,13 @@
 use crate::ask::{ask, is_typed};
 use crate::explained::{known, lines_of};
 use crate::fault::PromptFault;
+use crate::record::Record;
 use crate::reply::{Reply, Stop, wrong};
 use crate::session::Session;
 use crate::shown::view_of;
 use crate::verbs::{Verb, asked_by, handle_of, limit_of, words_of};
-use geos_shell::{StreamFault, print, print_lines, tell};
-use geos_text::{Part, first_line, first_word, put_parts, without_comment};
+use geos_shell::print;
+use geos_text::{first_line, first_word, without_comment};
 use geos_topics::topic_of;
 use std::alloc::Global;
 use std::io::BufReader;
@@ -48,7 +49,7 @@ fn help(alloc: Global, words: &[String]) -> Option<Reply> {
     }
 }
 
-impl<'a> Session<'_, 'a> {
+impl Record<'_, '_> {
     /// The blocks of the VM file, a block of it, or a chunk of this. `None` if there is no memory.
     fn dump(&self, alloc: Global, words: &[String], fault: &str) -> Option<Reply> {
         let (Some(block), Some(chunk)) = (handle_of(words.get(1)), handle_of(words.get(2))) else {
@@ -76,7 +77,9 @@ impl<'a> Session<'_, 'a> {
         }
         copied(rt.alloc(), lines)
     }
+}
 
+impl<'a> Session<'_, 'a> {
     /// What becomes of a line without its comment. `None` if there is no memory.
     fn reply(&mut self, rt: &HostRuntime, line: &[u8]) -> Option<Reply> {
         let alloc = rt.alloc();
@@ -97,51 +100,23 @@ impl<'a> Session<'_, 'a> {
         match verb {
             Verb::Quit => Some(Reply::Quit),
             Verb::Undo => self.undo(alloc),
-            Verb::Dump => self.dump(alloc, &words, fault),
-            Verb::Map => Some(Reply::Text(self.picture(alloc, None)?)),
-            Verb::Explain => self.explain(rt, words.get(1)),
-            Verb::Trace => self.trace(alloc, rest),
+            Verb::Dump => self.record.dump(alloc, &words, fault),
+            Verb::Map => Some(Reply::Text(self.record.picture(alloc, None)?)),
+            Verb::Explain => self.record.explain(rt, words.get(1)),
+            Verb::Trace => self.record.trace(alloc, rest),
             Verb::Help => help(alloc, &words),
         }
-    }
-
-    /// Prints an answer.
-    fn print(&self, rt: &HostRuntime, text: &[u8]) -> Result<(), StreamFault<'a>> {
-        if self.is_mute {
-            Ok(())
-        } else {
-            print_lines(rt, text)
-        }
-    }
-
-    /// Reports what is wrong with the line.
-    fn blame(&mut self, rt: &HostRuntime, sentence: &[u8]) -> Result<(), StreamFault<'a>> {
-        self.has_bad = true;
-        let parts = [
-            Part::Numbered("line ", self.number),
-            Part::Text(": "),
-            Part::Bytes(sentence),
-            Part::Text("\n"),
-        ];
-        let mut told = Vec::new(rt.alloc());
-        if put_parts(&mut told, &parts).is_err() {
-            return Err(StreamFault::Memory);
-        }
-        if !self.is_mute {
-            tell(rt, self.reports, &told);
-        }
-        Ok(())
     }
 
     /// Answers a line. Whether another one may follow.
     fn answer(&mut self, rt: &HostRuntime, line: &[u8]) -> Result<bool, PromptFault<'a>> {
         let (line, _) = first_line(line);
         match self.reply(rt, without_comment(line)) {
-            Some(Reply::Text(text)) => self.print(rt, &text)?,
-            Some(Reply::Wrong(sentence)) => self.blame(rt, &sentence)?,
+            Some(Reply::Text(text)) => self.voice.print(rt, &text)?,
+            Some(Reply::Wrong(sentence)) => self.voice.blame(rt, &sentence)?,
             Some(Reply::Quit) => return Ok(false),
-            Some(Reply::Stop(stop)) => return Err(self.fault_of(stop)),
-            None => return Err(self.fault_of(Stop::Memory)),
+            Some(Reply::Stop(stop)) => return Err(self.place.fault_of(stop)),
+            None => return Err(self.place.fault_of(Stop::Memory)),
         }
         Ok(true)
     }
@@ -164,14 +139,14 @@ impl<'a> Session<'_, 'a> {
     /// Answers the lines of the standard input up to its end, or to `quit`.
     pub(crate) fn go_on(&mut self, rt: &HostRuntime) -> Result<(), PromptFault<'a>> {
         let Ok(mut input) = BufReader::new(rt.alloc(), rt.stdin()) else {
-            return Err(self.fault_of(Stop::Memory));
+            return Err(self.place.fault_of(Stop::Memory));
         };
         for _ in 0..u64::MAX {
             let line = ask(rt, &mut input)?;
             if line.is_empty() {
                 break;
             }
-            self.number = self.number.saturating_add(1);
+            self.voice.number = self.voice.number.saturating_add(1);
             if !self.answer(rt, &line)? {
                 return Ok(());
             }
