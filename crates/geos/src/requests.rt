@@ -168,13 +168,17 @@ fn known_of<'t>(
     Ok(Known { page, origins })
 }
 
+/// Routines that keep to limits, as they run. A proof about them does not go over what `Limited` promises.
+#[derive(Clone, Copy)]
+struct Ready<'t, 'a> {
+    routines: &'t Runnable<'a>,
+    /// What blocks in memory may take.
+    room: Room,
+}
+
 /// What is traced of routines, and what a page shows of them, if their lines are known for one.
-fn traceable_of<'t>(
-    reports: Reports,
-    kept: &'t Limited<'_>,
-    known: &'t Known<'_>,
-) -> Traceable<'t> {
-    let routines = &kept.routines;
+fn traceable_of<'t>(reports: Reports, ready: Ready<'t, '_>, known: &'t Known<'_>) -> Traceable<'t> {
+    let routines = ready.routines;
     let shown = match &known.page {
         Some(known) => Some(Shown {
             path: routines.path,
@@ -191,7 +195,7 @@ fn traceable_of<'t>(
         image: &routines.image,
         origins,
         shown,
-        room: kept.limits.room,
+        room: ready.room,
         json: reports.json,
     }
 }
@@ -283,24 +287,27 @@ fn run_routines<'a>(
         return done(rt, reports, session(rt));
     };
     let kept = limited(rt, reports, &named, limits)?;
-    run_limited(rt, reports, request, &named, &kept)
+    let ready = Ready {
+        routines: &kept.routines,
+        room: kept.limits.room,
+    };
+    run_ready(rt, reports, request, &named, ready)
 }
 
 /// Runs routines that keep to the limits.
-fn run_limited<'a>(
+fn run_ready<'a>(
     rt: &HostRuntime,
     reports: Reports,
     request: RoutineRequest<'a>,
     named: &Named<'a>,
-    kept: &Limited<'_>,
+    ready: Ready<'_, '_>,
 ) -> Result<(), Reported>
     requires { RunsWithinLimits request }
 {
-    let routines = &kept.routines;
-    warn_of(rt, reports, routines, named);
-    let known = known_of(rt, reports, routines, named)?;
-    let end = run_on(rt, reports, request, kept, &known);
-    ran(rt, reports, end, routines)
+    warn_of(rt, reports, ready.routines, named);
+    let known = known_of(rt, reports, ready.routines, named)?;
+    let end = run_on(rt, reports, request, ready, &known);
+    ran(rt, reports, end, ready.routines)
 }
 
 /// Runs routines that were read.
@@ -308,13 +315,13 @@ fn run_on<'a, 't>(
     rt: &HostRuntime,
     reports: Reports,
     request: RoutineRequest<'a>,
-    kept: &'t Limited<'_>,
+    ready: Ready<'t, '_>,
     known: &'t Known<'_>,
 ) -> Result<(), RunFault<'a>>
     requires { RunsWithinLimits request }
 {
-    let image = &kept.routines.image;
-    let room = kept.limits.room;
+    let image = &ready.routines.image;
+    let room = ready.room;
     match request {
         RoutineRequest::Session => session(rt),
         RoutineRequest::Call {
@@ -340,7 +347,7 @@ fn run_on<'a, 't>(
             region,
             ..
         } => {
-            let traceable = traceable_of(reports, kept, known);
+            let traceable = traceable_of(reports, ready, known);
             trace(rt, &traceable, &words, file, region)
         }
         RoutineRequest::Run {
