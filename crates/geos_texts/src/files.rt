@@ -275,8 +275,9 @@ pub(crate) fn read_joined<'a>(
     };
     joining.add(File::new(String::from_str(alloc, path)?, text))?;
     for _ in 0..MOST_STEPS {
-        let Some(index) = joining.open.last().copied() else {
-            break;
+        let index = match joining.open.last() {
+            Some(index) => *index,
+            None => break,
         };
         let used = match joining.files.get_mut(index) {
             Some(file) => file.next_use(alloc)?,

@@ -160,7 +160,10 @@ impl<'a> Runnable<'a> {
 
     /// The line of each instruction in the text; none of an image without a text.
     pub fn lines(&self) -> Option<&[u32]> {
-        self.lines.as_ref().map(|lines| lines.as_slice())
+        match &self.lines {
+            Some(lines) => Some(lines.as_slice()),
+            None => None,
+        }
     }
 
     /// What the text has for each instruction, with the lines that its line marks name if `by_marks`; none of an image without a text.
