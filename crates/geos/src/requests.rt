@@ -450,10 +450,16 @@ fn serve_editor(rt: &HostRuntime) -> Result<(), Reported> {
         // The protocol requires status 1 if an editor ends the server without `shutdown`.
         Ok(true) => Ok(()),
         Ok(false) => Err(Reported),
-        Err(fault) => {
-            report(rt, &fault);
-            Err(Reported)
-        }
+        Err(fault) => Err(report_served(rt, &fault)),
+    }
+}
+
+/// Reports why the server ended.
+fn report_served(rt: &HostRuntime, fault: &ServeFault) -> Reported {
+    match fault {
+        ServeFault::Malformed => report(rt, &"no message of the protocol"),
+        ServeFault::Stream(error) => report(rt, error),
+        ServeFault::Memory => report(rt, &"memory"),
     }
 }
 

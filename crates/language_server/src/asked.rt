@@ -27,7 +27,7 @@ pub(crate) struct Asked<'m> {
 /// The text that a document has after a change: that of the last change, since each has all of it.
 fn changed_text(message: &Value) -> Option<&str> {
     let changes = message.pointer("/params/contentChanges")?.as_array()?;
-    changes.last()?.get("text")?.as_str()
+    changes.last()?.pointer("/text")?.as_str()
 }
 
 /// The number of the line at a path in a value.
@@ -37,8 +37,8 @@ fn line_at(value: &Value, path: &str) -> usize {
 
 /// What a message asks.
 pub(crate) fn asked_in(message: &Value) -> Asked<'_> {
-    let params = message.get("params").unwrap_or(message);
-    let position = params.get("position").unwrap_or(params);
+    let params = message.pointer("/params").unwrap_or(message);
+    let position = params.pointer("/position").unwrap_or(params);
     Asked {
         method: text_at(message, "/method"),
         uri: text_at(message, "/params/textDocument/uri"),

@@ -106,9 +106,14 @@ fn span_at(whole: Span<'_>, column: usize) -> Span<'_> {
     let at = column.saturating_sub(1);
     match word_at(whole.line, whole.text, at) {
         Some(word) if word.start <= at && at < word.end => word,
+        _ if at < whole.text.len() => Span {
+            start: at,
+            end: at.saturating_add(1),
+            ..whole
+        },
         _ => Span {
-            start: at.min(whole.text.len()),
-            end: at.saturating_add(1).min(whole.text.len()),
+            start: whole.text.len(),
+            end: whole.text.len(),
             ..whole
         },
     }

@@ -68,7 +68,9 @@ pub(crate) fn read_message<R: BufRead + Drop>(
                 _ => Ok(Incoming::Malformed),
             };
         }
-        length = length_in(&line).or(length);
+        if let Some(number) = length_in(&line) {
+            length = Some(number);
+        }
     }
     Ok(Incoming::Malformed)
 }

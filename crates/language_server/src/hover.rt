@@ -10,12 +10,12 @@ use geos_texts::known_at_lines;
 use geos_topics::topic;
 use std::alloc::{AllocError, Global};
 
-/// What is known at a line: the part that `geos explain` prints after the line itself. Empty if nothing is.
-fn note_in<'k>(known: &'k [u8], number: usize, line: &str) -> &'k [u8] {
+/// The part after this front in the first line that has it. Empty if no line has.
+fn note_in<'k>(known: &'k [u8], front: &[u8]) -> &'k [u8] {
     let mut rest = known;
     for _ in 0..known.len() {
         let (told, behind) = first_line(rest);
-        if let Some(note) = note_of(told, number, line) {
+        if let Some(note) = told.strip_prefix(front) {
             return note;
         }
         rest = behind;
@@ -23,16 +23,7 @@ fn note_in<'k>(known: &'k [u8], number: usize, line: &str) -> &'k [u8] {
     &[]
 }
 
-/// The part of a line that follows the number, a tab and the line of the text.
-fn note_of<'k>(told: &'k [u8], number: usize, line: &str) -> Option<&'k [u8]> {
-    let tab = told.iter().position(|byte| *byte == b'\t')?;
-    let (digits, text) = told.split_at(tab);
-    let is_asked = str::from_utf8(digits).ok()?.parse() == Ok(number);
-    let note = text.get(1..)?.strip_prefix(line.as_bytes())?;
-    if is_asked { Some(note) } else { None }
-}
-
-/// What is known at a line of an assembly text, counted from 0.
+/// What is known at a line of an assembly text, counted from 0: the part that `geos explain` prints after the line itself.
 fn known_at(
     alloc: Global,
     document: Page<'_>,
@@ -43,8 +34,13 @@ fn known_at(
         return Ok(String::new(alloc));
     }
     let known = known_at_lines(alloc, document.text.as_bytes())?;
-    let note = note_in(&known, line.saturating_add(1), text);
-    String::from_utf8_lossy(alloc, note.trim_ascii())
+    // The number of the line, a tab and the line.
+    let mut front = Reply::new(alloc);
+    front.number("", (line as u64).saturating_add(1));
+    front.raw("\t");
+    front.raw(text);
+    let front = front.finish()?;
+    String::from_utf8_lossy(alloc, note_in(&known, &front).trim_ascii())
 }
 
 /// The hover text of an instruction, in capital or small letters. Empty for any other word.
@@ -54,21 +50,18 @@ fn topic_on(alloc: Global, word: &str) -> Result<&'static str, AllocError> {
 }
 
 /// Writes what an instruction does, and what is known before it; `null` if there is nothing to say.
-fn put_said(out: &mut Reply, word: &Span<'_>, topic: &str, known: &str) -> Result<(), AllocError> {
+fn put_said(out: &mut Reply, word: &Span<'_>, topic: &str, known: &str) {
     if topic.is_empty() && known.is_empty() {
-        out.raw("null");
-        return Ok(());
+        return out.raw("null");
     }
-    let between = if topic.is_empty() || known.is_empty() {
-        ""
-    } else {
-        "\n\n"
-    };
-    let said = format!(in out.alloc; "{topic}{between}{known}")?;
-    out.quoted("{\"contents\":{\"kind\":\"plaintext\",\"value\":", &said);
-    put_range(out, "},\"range\":", word);
-    out.raw("}");
-    Ok(())
+    out.raw("{\"contents\":{\"kind\":\"plaintext\",\"value\":\"");
+    out.escaped(topic.as_bytes());
+    if !topic.is_empty() && !known.is_empty() {
+        out.escaped(b"\n\n")
+    }
+    out.escaped(known.as_bytes());
+    put_range(out, "\"},\"range\":", word);
+    out.raw("}")
 }
 
 /// `textDocument/hover`: what an instruction does, and what is known before it; `null` if there is nothing to say.
@@ -84,9 +77,7 @@ pub(crate) fn put_hover(
             let known = known_at(out.alloc, document, asked.line, line)?;
             put_said(out, &word, topic, &known)
         }
-        None => {
-            out.raw("null");
-            Ok(())
-        }
+        None => out.raw("null"),
     }
+    Ok(())
 }

@@ -43,7 +43,10 @@ impl Errors {
         self.has_faulty = self.has_faulty || found.rule.is_empty();
         let is_asked = found.line == Some(line) && found.rule == rule;
         self.has_asked = self.has_asked || is_asked;
-        self.bytes = self.bytes.max(bytes_said(found.cure))
+        let said = bytes_said(found.cure);
+        if said > self.bytes {
+            self.bytes = said;
+        }
     }
 }
 

@@ -46,6 +46,10 @@ pub(crate) const CAPABILITIES: &str =
 
 /// The method with the name, if it is served.
 pub(crate) fn method_of(name: &str) -> Option<Method> {
-    let (_, method) = METHODS.iter().find(|(known, _)| *known == name)?;
-    Some(*method)
+    for (known, method) in METHODS {
+        if known == name {
+            return Some(method);
+        }
+    }
+    None
 }

@@ -53,12 +53,12 @@ fn put_function(out: &mut Reply, document: Page<'_>, asked: &Asked<'_>) {
 
 /// The name of the function that a line of a source defines, if it defines one.
 fn function_of(line: usize, code: &str) -> Option<Span<'_>> {
-    let before = code.find("fn ")?;
+    let (before, _) = code.split_once("fn ")?;
     let is_word = code.trim_start().starts_with("fn ")
         || code.trim_start().starts_with("pub fn ")
         || code.trim_start().starts_with("inline fn ");
     if is_word {
-        word_at(line, code, before + 3)
+        word_at(line, code, before.len().saturating_add(3))
     } else {
         None
     }

@@ -26,10 +26,14 @@ pub(crate) fn line_of(text: &str, line: usize) -> &str {
 
 /// How many units of UTF-16 the character has that a byte of UTF-8 begins; 0 if it begins none.
 fn units_of(byte: u8) -> u64 {
-    match byte {
-        0x80..=0xbf => 0,
-        0xf0..=0xff => 2,
-        _ => 1,
+    if byte < 0x80 {
+        1
+    } else if byte < 0xc0 {
+        0
+    } else if byte < 0xf0 {
+        1
+    } else {
+        2
     }
 }
 
@@ -51,7 +55,7 @@ pub(crate) fn offset_of(line: &str, column: u64) -> usize {
 /// The column of an offset in bytes.
 fn column_of(line: &str, at: usize) -> u64 {
     let mut column: u64 = 0;
-    for byte in line.get(..at.min(line.len())).unwrap_or(line).bytes() {
+    for byte in line.get(..at).unwrap_or(line).bytes() {
         column = column.saturating_add(units_of(byte));
     }
     column

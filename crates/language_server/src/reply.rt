@@ -37,7 +37,7 @@ impl Reply {
 
     /// Forgets what was written, but not that an allocation was refused.
     pub(crate) fn clear(&mut self) {
-        self.text.bytes.clear()
+        self.text.bytes = Vec::new(self.alloc)
     }
 
     /// Whether an allocation was refused.
@@ -82,13 +82,18 @@ impl Reply {
         self.text.failed = true;
     }
 
+    /// Bytes of a text within quotes.
+    pub(crate) fn escaped(&mut self, text: &[u8]) {
+        for byte in text {
+            self.put_escaped(*byte);
+        }
+    }
+
     /// A text in quotes after a part that is JSON.
     pub(crate) fn quoted_bytes(&mut self, json: &str, text: &[u8]) {
         self.raw(json);
         self.raw("\"");
-        for byte in text {
-            self.put_escaped(*byte);
-        }
+        self.escaped(text);
         self.raw("\"")
     }
 
@@ -106,9 +111,7 @@ impl Reply {
 
     /// Begins the next item of the array.
     pub(crate) fn item(&mut self) {
-        if !self.is_first {
-            self.raw(",");
-        }
+        self.raw(if self.is_first { "" } else { "," });
         self.is_first = false;
     }
 }

@@ -306,6 +306,16 @@ fn mends_in_ways(
     false
 }
 
+/// What a message says is required, empty if it says nothing of that.
+fn required_in(message: &str) -> &str {
+    for end in [" is required", " are required"] {
+        if let Some((items, _)) = message.split_once(end) {
+            return items;
+        }
+    }
+    ""
+}
+
 /// Writes the actions by which lines `in` and `out` mend a finding, at most one for each wish of its cure, and one for the items that it says
 /// are required.
 pub(crate) fn put_rows(out: &mut Reply, mender: &mut Mender<'_>, finding: &Finding<'_, '_>) {
@@ -316,14 +326,8 @@ pub(crate) fn put_rows(out: &mut Reply, mender: &mut Mender<'_>, finding: &Findi
             mender.put(out, finding)
         }
     }
-    let required = finding
-        .message
-        .split_once(" is required")
-        .or(finding.message.split_once(" are required"));
-    if let Some((items, _)) = required
-        && are_items(items)
-        && mends_by_wish(mender, finding, Wish::of(items))
-    {
+    let items = required_in(finding.message);
+    if are_items(items) && mends_by_wish(mender, finding, Wish::of(items)) {
         mender.put(out, finding)
     }
 }

@@ -9,7 +9,6 @@ use crate::methods::{CAPABILITIES, Method, method_of};
 use crate::reply::Reply;
 use serde_json::Value;
 use std::alloc::{AllocError, Global};
-use std::fmt::{self, Display, Formatter};
 use std::io::{self, BufRead, Write};
 
 /// Why a server ends before the editor requests it.
@@ -32,16 +31,6 @@ impl From<AllocError> for ServeFault {
 impl From<io::Error> for ServeFault {
     fn from(error: io::Error) -> ServeFault {
         ServeFault::Stream(error)
-    }
-}
-
-impl Display for ServeFault {
-    fn fmt<W: fmt::Write>(&self, f: &mut Formatter<W>) -> fmt::Result {
-        match self {
-            ServeFault::Malformed => f.write_str("no message of the protocol"),
-            ServeFault::Stream(error) => error.fmt(f),
-            ServeFault::Memory => f.write_str("memory"),
-        }
     }
 }
 
@@ -143,7 +132,7 @@ impl Server {
     fn take(&mut self, body: &[u8]) -> Result<Vec<u8>, AllocError> {
         let mut out = Reply::new(self.alloc);
         match Value::from_slice(self.alloc, body) {
-            Ok(message) => match message.get("id") {
+            Ok(message) => match message.pointer("/id") {
                 Some(id) => {
                     put_id(&mut out, id);
                     self.answer(&mut out, &asked_in(&message))
@@ -165,9 +154,10 @@ fn send<W: Write>(alloc: Global, output: &mut W, body: &[u8]) -> Result<(), Serv
     if body.is_empty() {
         return Ok(());
     }
-    let length = body.len();
-    let header = format!(in alloc; "Content-Length: {length}\r\n\r\n")?;
-    output.write_all(header.as_bytes())?;
+    let mut header = Reply::new(alloc);
+    header.number("Content-Length: ", body.len() as u64);
+    header.raw("\r\n\r\n");
+    output.write_all(&header.finish()?)?;
     output.write_all(body)?;
     output.flush()?;
     Ok(())
