@@ -28,18 +28,23 @@ pub(crate) struct Session<'s, 'a> {
     pub(crate) file: Option<HeldFile<'a>>,
 }
 
-impl Session<'_, '_> {
-    /// Carries out a line on the copy of the VM file. `None` in it if the line is bad.
-    fn try_out(&mut self, alloc: Global, line: &[u8]) -> Result<Option<Done>, ScriptFault> {
-        let Some(names) = self.record.past.names(alloc) else {
-            return Err(ScriptFault::Memory);
-        };
-        if names.len() >= MOST_KEPT && kept_name(line).is_some() {
-            return Ok(None);
-        }
-        carry_out(alloc, self.record.checked, &names, line, &mut self.kernel)
+/// Carries out a line on the copy of the VM file. `None` in it if the line is bad.
+fn try_out(
+    alloc: Global,
+    record: &Record<'_, '_>,
+    line: &[u8],
+    kernel: &mut Kernel<MemoryDevice>,
+) -> Result<Option<Done>, ScriptFault> {
+    let Some(names) = record.past.names(alloc) else {
+        return Err(ScriptFault::Memory);
+    };
+    if names.len() >= MOST_KEPT && kept_name(line).is_some() {
+        return Ok(None);
     }
+    carry_out(alloc, record.checked, &names, line, kernel)
+}
 
+impl Session<'_, '_> {
     /// The copy of the VM file has committed: the lines since the last commit are carried out on the VM file too, and the journal forgets them
     /// first.
     fn commit(&mut self, alloc: Global, printed: &[u8]) -> Result<(), Stop> {
@@ -86,7 +91,7 @@ impl Session<'_, '_> {
     /// Carries out a line without its comment: on the copy of the VM file, and if it has committed there, with the lines before it on the
     /// VM file too. `None` if there is no memory.
     pub(crate) fn command(&mut self, alloc: Global, line: &[u8]) -> Option<Reply> {
-        match self.try_out(alloc, line) {
+        match try_out(alloc, &self.record, line, &mut self.kernel) {
             Ok(Some(Done { printed, word })) => {
                 if !self.record.past.add(line, word) {
                     return None;
