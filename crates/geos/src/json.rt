@@ -77,15 +77,23 @@ fn told<'a>(
     Ok(judged?)
 }
 
+/// Prints what is found in an image that was read, or why none was, and returns what was read.
+fn read_told<'a>(
+    rt: &HostRuntime,
+    reports: Reports,
+    read: Result<Runnable<'a>, TextFault<'a>>,
+) -> Result<Runnable<'a>, TextFault<'a>> {
+    told(rt, reports, &read, false)?;
+    read
+}
+
 /// Reads what a path names, as `Runnable::read`, and prints what is found in it.
 pub(crate) fn read_and_tell<'a>(
     rt: &HostRuntime,
     reports: Reports,
     from: TextPath<'a>,
 ) -> Result<Runnable<'a>, TextFault<'a>> {
-    let read = Runnable::read(rt, from);
-    told(rt, reports, &read, false)?;
-    read
+    read_told(rt, reports, Runnable::read(rt, from))
 }
 
 /// The same, and `TextFault::Explained` if the verifier refuses the image. `effects` says whether those of each routine are printed.
@@ -119,9 +127,6 @@ pub(crate) fn assemble_and_tell<'a>(
     } else {
         assemble(rt, reports, text, image)
     };
-    told(rt, reports, &made, false)?;
-    match made {
-        Ok(_) => Ok(()),
-        Err(fault) => Err(fault),
-    }
+    read_told(rt, reports, made)?;
+    Ok(())
 }
